@@ -1,0 +1,47 @@
+//! Writes one list of calls and answers for each module of the port into the folder that is named.
+mod bbox;
+mod beyond;
+mod fns;
+mod paper;
+mod parent;
+mod quadkey;
+mod record;
+mod sample;
+mod sibling_relationship;
+mod tile;
+mod tile_zbox;
+mod zoom;
+
+use record::List;
+
+const LISTS: [(&str, fn(&mut List)); 8] = [
+    ("sibling_relationship", sibling_relationship::write),
+    ("tile", tile::write),
+    ("quadkey", quadkey::write),
+    ("fns", fns::write),
+    ("parent", parent::write),
+    ("tile_zbox", tile_zbox::write),
+    ("zoom", zoom::write),
+    ("bbox", bbox::write),
+];
+
+fn main() {
+    let folder = std::env::args().nth(1).expect("usage: generator OUT");
+    let mut surprises = Vec::new();
+    for (name, fill) in LISTS {
+        let mut list = List::default();
+        fill(&mut list);
+        let text = list.text();
+        println!("{name}.txt: {} bytes", text.len());
+        list.print_counts();
+        std::fs::write(format!("{folder}/{name}.txt"), text).expect("the list can be written");
+        surprises.extend(list.surprises);
+    }
+    beyond::print();
+    for surprise in &surprises {
+        eprintln!("{surprise}");
+    }
+    if !surprises.is_empty() {
+        std::process::exit(1);
+    }
+}

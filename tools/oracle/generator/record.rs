@@ -1,0 +1,128 @@
+//! A list of calls and answers: first those that the Rust was run for, then those that document 01 decides alone.
+use std::collections::{BTreeMap, HashSet};
+use std::panic::{AssertUnwindSafe, catch_unwind, set_hook, take_hook};
+
+use utiles_core::{Tile, to_id};
+
+use crate::sample::Xyz;
+
+#[derive(Default)]
+pub struct List {
+    run: String,
+    ruled: String,
+    refused: String,
+    // Of each function: the calls run, ruled and refused.
+    counts: BTreeMap<String, [usize; 3]>,
+    seen: HashSet<String>,
+    // Calls inside the domain at which the Rust stops, or is otherwise than document 01 says.
+    pub surprises: Vec<String>,
+}
+
+impl List {
+    /// A call that the Rust is run for if document 01 gives it no refusal, and that is written as refused otherwise.
+    pub fn call(&mut self, name: &str, args: &[u64], refusal: u64, zeros: usize, answer: impl FnOnce() -> Vec<u64>) {
+        if refusal == 0 {
+            self.compare(name, args, 0, zeros, || Ok(answer()));
+        } else {
+            self.refuse(name, args, refusal, zeros);
+        }
+    }
+
+    /// A call that the Rust is run for whether it is refused or not. It must refuse as document 01 does.
+    pub fn compare(
+        &mut self,
+        name: &str,
+        args: &[u64],
+        refusal: u64,
+        zeros: usize,
+        answer: impl FnOnce() -> Result<Vec<u64>, u64>,
+    ) {
+        let Some(call) = self.first(name, args) else { return };
+        let Ok(answer) = caught(answer) else {
+            self.surprises.push(format!("the Rust stops: {call}"));
+            return;
+        };
+        let number = answer.as_ref().err().copied().unwrap_or(0);
+        if number != refusal {
+            self.surprises.push(format!("the Rust says {number}, document 01 {refusal}: {call}"));
+        }
+        self.run += &line(&call, number, &answer.unwrap_or(vec![0; zeros]));
+        self.counts.entry(name.to_string()).or_default()[0] += 1;
+    }
+
+    /// A call that document 01 answers otherwise than the Rust, or that the Rust cannot be given.
+    pub fn rule(&mut self, name: &str, args: &[u64], values: &[u64]) {
+        let Some(call) = self.first(name, args) else { return };
+        self.ruled += &line(&call, 0, values);
+        self.counts.entry(name.to_string()).or_default()[1] += 1;
+    }
+
+    pub fn refuse(&mut self, name: &str, args: &[u64], refusal: u64, zeros: usize) {
+        let Some(call) = self.first(name, args) else { return };
+        self.refused += &line(&call, refusal, &vec![0; zeros]);
+        self.counts.entry(name.to_string()).or_default()[2] += 1;
+    }
+
+    // The call's text, unless the list has the call.
+    fn first(&mut self, name: &str, args: &[u64]) -> Option<String> {
+        let call = format!("{name}{}", spaced(args));
+        self.seen.insert(call.clone()).then_some(call)
+    }
+
+    pub fn text(&self) -> String {
+        let mut text = self.run.clone();
+        if !self.ruled.is_empty() {
+            text += &format!("# answers by document 01, not run\n{}", self.ruled);
+        }
+        if !self.refused.is_empty() {
+            text += &format!("# refusals by document 01, not run\n{}", self.refused);
+        }
+        text
+    }
+
+    pub fn print_counts(&self) {
+        for (name, [run, ruled, refused]) in &self.counts {
+            println!("    {name}: {run} run, {ruled} answers and {refused} refusals by document 01");
+        }
+    }
+}
+
+/// What a call of the Rust gives, or the stop that it ends in, without the message that a stop prints.
+pub fn caught<T>(call: impl FnOnce() -> T) -> std::thread::Result<T> {
+    let hook = take_hook();
+    set_hook(Box::new(|_| {}));
+    let answer = catch_unwind(AssertUnwindSafe(call));
+    set_hook(hook);
+    answer
+}
+
+fn spaced(numbers: &[u64]) -> String {
+    numbers.iter().map(|n| format!(" {n}")).collect()
+}
+
+fn line(call: &str, number: u64, values: &[u64]) -> String {
+    format!("{call} = {number}{}\n", spaced(values))
+}
+
+/// The numbers of a tile, as arguments or as a value.
+pub fn xyz((x, y, z): Xyz) -> Vec<u64> {
+    vec![x.into(), y.into(), z.into()]
+}
+
+pub fn of_tile(tile: Tile) -> Vec<u64> {
+    xyz((tile.x, tile.y, tile.z))
+}
+
+/// A list: its count, then its entries.
+pub fn counted(entries: &[u64]) -> Vec<u64> {
+    [&[entries.len() as u64], entries].concat()
+}
+
+pub fn bytes(entries: &[u8]) -> Vec<u64> {
+    counted(&entries.iter().map(|&b| b.into()).collect::<Vec<u64>>())
+}
+
+/// A list of tiles holds their `to_id` numbers.
+pub fn ids(tiles: &[Tile]) -> Vec<u64> {
+    counted(&tiles.iter().map(|t| to_id(t.x, t.y, t.z)).collect::<Vec<u64>>())
+}
