@@ -1,0 +1,3 @@
+pub mod Bits
+pub mod Powers
+pub mod Tests

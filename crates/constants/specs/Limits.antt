@@ -1,0 +1,20 @@
+-- The limits of document 01, and what callers may know of them: the laws, not the numbers.
+use Prim.Native.Nat.{ℕ, _≤_}
+use native.Mathlib.Omega.{arith}
+
+-- the deepest zoom
+unfoldable pub maxZoom : ℕ
+maxZoom = 29
+
+-- the most entries of a list, of tiles or of zooms
+unfoldable pub maxEntries : ℕ
+maxEntries = 65536
+
+-- the most boxes that are summed
+unfoldable pub maxBoxes : ℕ
+maxBoxes = 32
+
+-- columns and rows of the deepest zoom fit 32 bits with one to spare, and a box's count of tiles fits 64
+pub maxZoom-small : maxZoom ≤ 30
+unfolding maxZoom
+maxZoom-small = omega arith

@@ -1,0 +1,110 @@
+// The calls of the list on standard input, one by one. A line that is no call and no heading is printed.
+use crate::lines;
+use crate::lines::Line;
+use crate::parse;
+use crate::parse::Parsed;
+use crate::parse::Shape;
+use crate::parts;
+
+// A call and its line. At the end of the list none is found.
+pub struct Call {
+    pub found: bool,
+    pub line: Line,
+    pub shape: Shape,
+}
+
+// Room for the numbers of a line of 8,192 bytes.
+pub fn numbers() -> [u64; 4096] {
+    [0; 4096]
+}
+
+// The first call. A list with none is reported, so that a list that is lost is noticed.
+pub fn first(text: &mut [u8; 65536], numbers: &mut [u64; 4096]) -> Call {
+    let call = seek(text, numbers, lines::before_first());
+    if !call.found {
+        io::write_all(1, b"no calls\n");
+    }
+    call
+}
+
+// The call after `last`, which is printed unless its answer was the same.
+pub fn next(text: &mut [u8; 65536], numbers: &mut [u64; 4096], last: Call, same: bool) -> Call {
+    let line = last.line;
+    if !same {
+        print(text, line);
+    }
+    seek(text, numbers, line)
+}
+
+pub fn name(text: &[u8; 65536], call: Call) -> &[u8] {
+    let line = call.line;
+    let shape = call.shape;
+    parts::bytes(text, line.start, shape.name)
+}
+
+pub fn args(numbers: &[u64; 4096], call: Call) -> &[u64] {
+    let shape = call.shape;
+    parts::numbers(numbers, 0, shape.args)
+}
+
+pub fn answer(numbers: &[u64; 4096], call: Call) -> &[u64] {
+    let shape = call.shape;
+    parts::numbers(numbers, shape.args, shape.answers)
+}
+
+// The first call behind a line.
+fn seek(text: &mut [u8; 65536], numbers: &mut [u64; 4096], last: Line) -> Call {
+    let mut line = last;
+    // A list ends long before the turns do.
+    let mut turns = u64::MAX;
+    while turns > 0 {
+        turns -= 1;
+        line = lines::next_line(text, line);
+        if line.filled == 0 {
+            return none(line);
+        }
+        match parsed(text, numbers, line) {
+            Parsed::Call(shape) => {
+                return Call {
+                    found: true,
+                    line,
+                    shape,
+                };
+            }
+            Parsed::Heading => {}
+            Parsed::Bad => print(text, line),
+        }
+    }
+    none(line)
+}
+
+fn none(line: Line) -> Call {
+    Call {
+        found: false,
+        line,
+        shape: Shape {
+            name: 0,
+            args: 0,
+            answers: 0,
+        },
+    }
+}
+
+fn parsed(text: &[u8; 65536], numbers: &mut [u64; 4096], line: Line) -> Parsed {
+    parse::parse(whole(text, line), numbers)
+}
+
+fn print(text: &[u8; 65536], line: Line) {
+    io::write_all(1, b"differs: ");
+    io::write_all(1, whole(text, line));
+    io::write_all(1, b"\n");
+}
+
+fn whole(text: &[u8], line: Line) -> &[u8] {
+    let start = line.start;
+    let end = line.end;
+    if end < start {
+        return &text[..0];
+    }
+    parts::bytes(text, start, end - start)
+}
