@@ -1,0 +1,165 @@
+-- What the definitions of this crate come to, in the words of document 01 and of the Bing Maps page. Nothing is assumed.
+use mathlib.Core.Path.{_≡_, refl, sym, ap, _∙_}
+use mathlib.Core.Logic.{_↔_, _⊎_}
+use mathlib.Core.Bool.{true}
+use mathlib.Core.List.{List, [], map}
+use Prim.Native.Nat.{ℕ, suc, _+_, _-_, _*_, _/_, _^_, _≤_, _<_}
+use native.Mathlib.Nat.{mod-eq-of-lt}
+use native.Mathlib.Numerals.{add-one}
+use native.Mathlib.Omega.{arith}
+use lib.ListN.{length, take, getD}
+use lib.Pow.{areBytes}
+use lib.Seq.{length-take-le}
+use borrow.Author.Tests.{le-leb, lt-ltb}
+use Rattle.bits.specs.Bits.{bit}
+use Rattle.constants.specs.Limits.{maxZoom, maxZoom-small}
+use Rattle.errors.specs.Answer.{Answer}
+use Rattle.tile.specs.OnMap.{OnMap, tileAt, on-map-accepted}
+use Rattle.tile.specs.Steps.{flipOf}
+use Rattle.tile.specs.declared.Tile.{Tile}
+use Rattle.quadkey.specs.Key.{keyFrom, keyOf, isDigit, allDigits, flipDigit, spelled, columnOf, rowOf, keyTile}
+use Rattle.quadkey.specs.Key.{isKey, keyRefusal, ancestorRefusal, sharedLength, sharedRefusal}
+use Rattle.quadkey.specs.Laws.{key-length, key-digit, key-digits, key-again, key-above, key-flipped, flip-twice}
+use Rattle.quadkey.specs.Laws.{key-accepted, key-bad-byte, key-too-long, accepted-key, refused-long, refused-byte}
+use Rattle.quadkey.specs.Laws.{digit-bounds, digits-at, all-digits, some-bad, digits-bad, digit-out}
+use Rattle.quadkey.specs.Laws.{spelled-column, spelled-row, spelled-small, ancestor-accepted, shared-within, shared-accepted}
+use Rattle.quadkey.specs.Bing.{base4, base4-small, bytes-of-digits, even-bit, odd-bit}
+use Rattle.quadkey.specs.Ancestor.{Ancestor, tileOf, above-part, shared-above-first, shared-above-second, shared-deepest}
+use Rattle.quadkey.specs.Rust as rust
+
+-- a call that is not refused and answers with this tile
+abbrev pub found : Tile → Answer Tile
+found t = record { number = 0; value = t }
+
+-- a tile's key leads back to the tile
+pub tile-to-key-to-tile : (x y z : ℕ) → OnMap x y z → keyTile (keyOf x y z) ≡ found (tileAt x y z)
+tile-to-key-to-tile x y z m =
+    let e : keyRefusal (keyOf x y z) ≡ 0 = key-accepted (keyOf x y z) (rw (key-length 48 x y z) (m .zoom)) (key-digits x y z) in
+    rw (e, spelled-column x y z, spelled-row x y z, key-length 48 x y z, mod-eq-of-lt (m .column), mod-eq-of-lt (m .row))
+
+-- a key that is not refused leads to a tile of the map, and that tile back to the key
+pub key-to-tile-to-key : (key : List ℕ) → keyRefusal key ≡ 0
+    → (keyTile key ≡ found (tileOf key)) × OnMap (columnOf key) (rowOf key) (length key) × (keyOf (columnOf key) (rowOf key) (length key) ≡ key)
+key-to-tile-to-key key e =
+    let k = accepted-key key e in
+    (rw e, record { zoom = k .0; column = spelled-small 0 key; row = spelled-small 1 key }, key-again key (k .1))
+
+-- "The empty key is the root"
+pub the-empty-key-is-the-root : keyTile [] ≡ found (tileAt 0 0 0)
+unfolding allDigits spelled
+the-empty-key-is-the-root = key-to-tile-to-key [] (key-accepted [] (omega arith) refl) .0
+
+-- "Digit 2·(bit of y) + (bit of x), top bit first, one of bytes 48 to 51"
+pub the-digits : (x y z i : ℕ) → i < z → getD (keyOf x y z) i 0 ≡ 48 + (2 * bit y (z - 1 - i) + bit x (z - 1 - i))
+the-digits x y z i h = let e : z - suc i ≡ z - 1 - i = omega arith in rw e at (key-digit 48 x y z i h)
+
+-- a tile of zoom z has z digits
+pub a-digit-for-each-zoom : (x y z : ℕ) → length (keyOf x y z) ≡ z
+a-digit-for-each-zoom x y z = key-length 48 x y z
+
+-- the Bing Maps page: the bits of y and x are interleaved, and the number is read in base 4.
+-- Bits 0, 2, 4 .. are those of x, bits 1, 3, 5 .. those of y, and there are no more
+pub the-bits-by-turns : (x y z : ℕ)
+    → ((i : ℕ) → i < z → (bit (base4 (keyFrom 0 x y z)) (2 * i) ≡ bit x i) × (bit (base4 (keyFrom 0 x y z)) (2 * i + 1) ≡ bit y i))
+    × (base4 (keyFrom 0 x y z) < 4 ^ z)
+    × (map (λ (d : ℕ). 48 + d) (keyFrom 0 x y z) ≡ keyOf x y z)
+the-bits-by-turns x y z = (λ i h. (even-bit x y z i h, odd-bit x y z i h), base4-small x y z, bytes-of-digits x y z)
+
+-- "one of bytes 48 to 51; 0 to 29 digits": exactly these keys are not refused
+pub the-accepted-keys : (key : List ℕ)
+    → keyRefusal key ≡ 0 ↔ (length key ≤ maxZoom) × ((i : ℕ) → i < length key → (48 ≤ getD key i 0) × (getD key i 0 ≤ 51))
+the-accepted-keys key = (
+  λ e. let k = accepted-key key e in (k .0, λ i h. digit-bounds (getD key i 0) (digits-at key i (k .1) h)),
+  λ k. key-accepted key (k .0) (all-digits key (λ i h. rw (le-leb _ _ (k .1 i h .0), le-leb _ _ (k .1 i h .1)))),
+)
+
+-- "4 more than 29 bytes; 5 a byte other than 48 to 51", "The lowest number that applies is given": 4 whatever the bytes are, 5 where the length is right
+pub four-is-too-long : (key : List ℕ) → keyRefusal key ≡ 4 ↔ maxZoom < length key
+four-is-too-long key = (refused-long key, key-too-long key)
+
+pub five-is-a-bad-byte : (key : List ℕ)
+    → keyRefusal key ≡ 5 ↔ (length key ≤ maxZoom) × ((i : ℕ) × (i < length key) × ((getD key i 0 < 48) ⊎ (51 < getD key i 0)))
+five-is-a-bad-byte key = (
+  λ e. let r = refused-byte key e in let b = some-bad key (r .1) in (r .0, (b .0, b .1, digit-out (getD key (b .0) 0) .0 (b .2))),
+  λ r. key-bad-byte key (r .0) (digits-bad key (r .1 .0) (r .1 .1) (digit-out (getD key (r .1 .0) 0) .1 (r .1 .2))),
+)
+
+-- the key of a parent is the key without its last digit
+pub the-parents-key : (x y z : ℕ) → keyOf (x / 2) (y / 2) z ≡ take z (keyOf x y (suc z))
+the-parents-key x y z = rw (← add-one z) (key-above 48 x y z 1)
+
+-- and n zooms up, without its last n digits
+pub the-key-above : (x y z n : ℕ) → keyOf (x / 2 ^ n) (y / 2 ^ n) z ≡ take z (keyOf x y (z + n))
+the-key-above x y z n = key-above 48 x y z n
+
+-- "an ancestor's key is the leading part of the caller's own bytes, for a length up to the key's":
+-- n digits are the key of the tile at zoom n, which is the ancestor of the key's tile
+pub an-ancestors-key : (key : List ℕ) (n : ℕ) → ancestorRefusal key n ≡ 0
+    → (take n key ≡ keyOf (columnOf key / 2 ^ (length key - n)) (rowOf key / 2 ^ (length key - n)) n)
+    × Ancestor (tileAt (columnOf key / 2 ^ (length key - n)) (rowOf key / 2 ^ (length key - n)) n) (tileOf key)
+an-ancestors-key key n e =
+    let h = ancestor-accepted key n e in
+    let up = length key - n in
+    let above = tileAt (columnOf key / 2 ^ up) (rowOf key / 2 ^ up) n in
+    let a : Ancestor above (tileOf key) = record { zoom = h .0; column = refl; row = refl } in
+    (sym (above-part _ key (accepted-key key (h .1) .1) a), a)
+
+-- "(longer is 3)", which is tested before the key
+pub longer-is-three : (key : List ℕ) (n : ℕ) → length key < n → ancestorRefusal key n ≡ 3
+longer-is-three key n h = rw (lt-ltb _ _ h)
+
+-- "of two keys, the key of their deepest shared ancestor is handed back as a part of the first":
+-- the tile of that part is an ancestor of both tiles, and every tile that is has no deeper zoom
+pub the-deepest-shared-ancestor : (a b : List ℕ) → sharedRefusal a b ≡ 0
+    → Ancestor (tileOf (take (sharedLength a b) a)) (tileOf a)
+    × Ancestor (tileOf (take (sharedLength a b) a)) (tileOf b)
+    × ((s : Tile) → Ancestor s (tileOf a) → Ancestor s (tileOf b) → s .z ≤ tileOf (take (sharedLength a b) a) .z)
+the-deepest-shared-ancestor a b e =
+    let k = shared-accepted a b .0 e in
+    let l : length (take (sharedLength a b) a) ≡ sharedLength a b = length-take-le (sharedLength a b) a (shared-within a b) in
+    (shared-above-first a b, shared-above-second a b, rw l (shared-deepest a b (accepted-key a (k .0) .1) (accepted-key b (k .1) .1)))
+
+-- two keys are refused together where one of them is
+pub two-keys-accepted : (a b : List ℕ) → sharedRefusal a b ≡ 0 ↔ (keyRefusal a ≡ 0) × (keyRefusal b ≡ 0)
+two-keys-accepted = shared-accepted
+
+-- "0 and 2 change places, 1 and 3": the key of the tile whose row is counted from the other side
+pub the-flipped-key : (x y z : ℕ) → OnMap x y z → map flipDigit (keyOf x y z) ≡ keyOf x (2 ^ z - 1 - y) z
+the-flipped-key x y z m = key-flipped z x y z (m .row) (omega arith)
+
+-- so it leads to the flipped tile
+pub the-flipped-tile : (key : List ℕ) → keyRefusal key ≡ 0 → keyTile (map flipDigit key) ≡ flipOf (tileOf key)
+the-flipped-tile key e =
+    let k = key-to-tile-to-key key e in
+    let x = columnOf key in
+    let y = rowOf key in
+    let z = length key in
+    let m : OnMap x (2 ^ z - 1 - y) z = record { zoom = k .1 .zoom; column = k .1 .column; row = omega (arith, k .1 .row) } in
+    let f : map flipDigit key ≡ keyOf x (2 ^ z - 1 - y) z = ap (map flipDigit) (sym (k .2)) ∙ the-flipped-key x y z (k .1) in
+    rw (f, on-map-accepted (k .1)) (tile-to-key-to-tile x (2 ^ z - 1 - y) z m)
+
+pub flipped-twice : (key : List ℕ) → keyRefusal key ≡ 0 → map flipDigit (map flipDigit key) ≡ key
+flipped-twice key e = flip-twice key (accepted-key key e .1)
+
+-- The Rust, by the functions of Rust.antt, gives the same: the digits of `xyz2quadkey_vec` and the characters of `xyz2quadkey`,
+pub the-rusts-digits : (x y z : ℕ) → z ≤ maxZoom → rust.digitsSet x y z ≡ keyFrom 0 x y z
+the-rusts-digits x y z h = rust.digits-set x y z (omega (arith, maxZoom-small))
+
+pub the-rusts-characters : (x y z i : ℕ) → z ≤ maxZoom → i < z → rust.charAt x y z i ≡ getD (keyOf x y z) i 0
+the-rusts-characters = rust.char-at
+
+-- the test of a byte and of a key, and the order of its two errors,
+pub the-rusts-byte : (b : ℕ) → b < 256 → rust.isByte b ≡ isDigit b
+the-rusts-byte = rust.byte-is-digit
+
+pub the-rusts-test : (key : List ℕ) → areBytes key ≡ true → (rust.isQuadkey key ≡ isKey key) × (rust.tryNew key ≡ keyRefusal key)
+the-rusts-test key e = (rust.quadkey-is-key key e, rust.try-new-refuses key e)
+
+-- the tile of a key, by either of its two loops,
+pub the-rusts-tile : (key : List ℕ) → keyRefusal key ≡ 0 → (rust.toXyz key ≡ tileOf key) × (rust.toXyzIter key ≡ tileOf key)
+the-rusts-tile key e = (rust.fold-is-tile key e, rust.iter-is-tile key e)
+
+-- and the flipped key: "the Rust's empty string for a bad character is refusal 5 here"
+pub the-rusts-flipped-key : (key : List ℕ)
+    → (keyRefusal key ≡ 0 → rust.flipString key ≡ map flipDigit key) × (keyRefusal key ≡ 5 → rust.flipString key ≡ [])
+the-rusts-flipped-key key = (λ e. rust.flip-string key (accepted-key key e .1), λ e. rust.no-string key (refused-byte key e .1))
