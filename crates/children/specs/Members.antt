@@ -1,0 +1,135 @@
+-- What is in a list that is gathered, and how often.
+use mathlib.Core.Path.{_≡_, refl, sym, ap}
+use mathlib.Core.Logic.{_⊎_, inl, inr, ∥∥₁-elim}
+use mathlib.Core.HLevel.{⊥-prop}
+use mathlib.Core.List.{List, [], _∷_, _++_, map, append-assoc, flatMap}
+use mathlib.Core.List.{List·Memᴰ, List·Memᴰ·head, List·Memᴰ·tail, List·Memᴰ·not-nil, List·Memᴰ·cases-cons, List·Memᴰ·append-cases}
+use mathlib.Core.List.{Memᴰ·append-left, Memᴰ·append-right, Memᴰ·cast}
+use mathlib.Core.List.{List·Nodup, Pairwise·nil, nodup-cons}
+use Prim.Native.Nat.{ℕ, zero, suc, _+_, _*_, _<_}
+use native.Mathlib.Omega.{arith}
+use lib.ListN.{length, take, drop, getD}
+use lib.Seq.{take-at, drop-append-add}
+use Rattle.children.specs.Children.{gather}
+
+-- membership in lists that are gathered
+pub in-gather : {A : Type 0} {a : A} (f : ℕ → List A) (qs : List ℕ) → List·Memᴰ a (gather f qs)
+    → (q : ℕ) × List·Memᴰ q qs × List·Memᴰ a (f q)
+unfolding gather
+in-gather f [] m = absurd (List·Memᴰ·not-nil m)
+in-gather {a = a} f (q ∷ qs) m = pick (List·Memᴰ·append-cases (f q) m) (in-gather f qs)
+  where
+    pick : List·Memᴰ a (f q) ⊎ List·Memᴰ a (gather f qs) → (List·Memᴰ a (gather f qs) → (r : ℕ) × List·Memᴰ r qs × List·Memᴰ a (f r))
+        → (r : ℕ) × List·Memᴰ r (q ∷ qs) × List·Memᴰ a (f r)
+    pick (inl k) g = (q, List·Memᴰ·head refl, k)
+    pick (inr k) g = let s = g k in (s .0, List·Memᴰ·tail (s .1), s .2)
+
+pub into-gather : {A : Type 0} {a : A} (f : ℕ → List A) (q : ℕ) (qs : List ℕ) → List·Memᴰ q qs → List·Memᴰ a (f q)
+    → List·Memᴰ a (gather f qs)
+unfolding gather
+into-gather f q [] m k = absurd (List·Memᴰ·not-nil m)
+into-gather {a = a} f q (r ∷ qs) m k = pick (List·Memᴰ·cases-cons m) (λ i. into-gather f q qs i k)
+  where
+    pick : (q ≡ r) ⊎ List·Memᴰ q qs → (List·Memᴰ q qs → List·Memᴰ a (gather f qs)) → List·Memᴰ a (f r ++ gather f qs)
+    pick (inl e) g = Memᴰ·append-left (gather f qs) (rw e at k)
+    pick (inr i) g = Memᴰ·append-right (f r) (g i)
+
+-- a list in which nothing is twice
+pub data Once {A : Type 0} : List A → Type 0 where
+  none : Once []
+  more : {a : A} {l : List A} → (List·Memᴰ a l → ⊥) → Once l → Once (a ∷ l)
+
+-- the library's word for it
+pub once-nodup : {A : Type 0} {l : List A} → Once l → List·Nodup l
+once-nodup none = Pairwise·nil
+once-nodup (more n o) = nodup-cons .1 (λ m. ∥∥₁-elim m ⊥-prop n, once-nodup o)
+
+pub once-append : {A : Type 0} {a b : List A} → Once a → Once b → ((t : A) → List·Memᴰ t a → List·Memᴰ t b → ⊥) → Once (a ++ b)
+once-append none o h = o
+once-append {A} {b = b} (more {a = t} {l = a} n p) o h = more both (once-append p o (λ u k m. h u (List·Memᴰ·tail k) m))
+  where
+    both : List·Memᴰ t (a ++ b) → ⊥
+    both m = pick (List·Memᴰ·append-cases a m)
+      where
+        pick : List·Memᴰ t a ⊎ List·Memᴰ t b → ⊥
+        pick (inl k) = n k
+        pick (inr k) = h t (List·Memᴰ·head refl) k
+
+pub once-gather : {A : Type 0} (f : ℕ → List A) {qs : List ℕ} → Once qs → ((q : ℕ) → Once (f q))
+    → ((t : A) (q r : ℕ) → List·Memᴰ q qs → List·Memᴰ r qs → List·Memᴰ t (f q) → List·Memᴰ t (f r) → q ≡ r) → Once (gather f qs)
+unfolding gather
+once-gather f none each apart = none
+once-gather {A} f (more {a = q} {l = qs} n o) each apart =
+    once-append (each q) (once-gather f o each (λ t a b k m. apart t a b (List·Memᴰ·tail k) (List·Memᴰ·tail m)))
+    (λ t k m. let s = in-gather f qs m in n (Memᴰ·cast (apart t q (s .0) (List·Memᴰ·head refl) (List·Memᴰ·tail (s .1)) k (s .2)) (s .1)))
+
+pub getD-in : {A : Type 0} (l : List A) (i : ℕ) (d : A) → i < length l → List·Memᴰ (getD l i d) l
+getD-in [] i d h = absurd (omega arith)
+getD-in (a ∷ l) zero d h = List·Memᴰ·head refl
+getD-in (a ∷ l) (suc i) d h = List·Memᴰ·tail (getD-in l i d (omega arith))
+
+-- the same entry at two places: it is one place
+pub once-at : {A : Type 0} {l : List A} → Once l → (i j : ℕ) (d : A) → i < length l → j < length l → getD l i d ≡ getD l j d → i ≡ j
+once-at none i j d h k e = absurd (omega arith)
+once-at (more n o) zero zero d h k e = refl
+once-at (more {l = l} n o) zero (suc j) d h k e = absurd (n (Memᴰ·cast e (getD-in l j d (omega arith))))
+once-at (more {l = l} n o) (suc i) zero d h k e = absurd (n (Memᴰ·cast (sym e) (getD-in l i d (omega arith))))
+once-at (more n o) (suc i) (suc j) d h k e = ap suc (once-at o i j d (omega arith) (omega arith) e)
+
+pub in-map : {A B : Type 0} (f : A → B) {b : B} (l : List A) → List·Memᴰ b (map f l) → (a : A) × List·Memᴰ a l × (b ≡ f a)
+in-map f [] m = absurd (List·Memᴰ·not-nil m)
+in-map {A} f {b} (t ∷ l) m = pick (List·Memᴰ·cases-cons m) (in-map f l)
+  where
+    pick : (b ≡ f t) ⊎ List·Memᴰ b (map f l) → (List·Memᴰ b (map f l) → (a : A) × List·Memᴰ a l × (b ≡ f a))
+        → (a : A) × List·Memᴰ a (t ∷ l) × (b ≡ f a)
+    pick (inl e) g = (t, List·Memᴰ·head refl, e)
+    pick (inr k) g = let s = g k in (s .0, List·Memᴰ·tail (s .1), s .2)
+
+-- what tells the members of a list apart leaves each of them once
+pub once-map : {A B : Type 0} (f : A → B) {l : List A} → Once l → ((a b : A) → List·Memᴰ a l → List·Memᴰ b l → f a ≡ f b → a ≡ b)
+    → Once (map f l)
+once-map f none apart = none
+once-map f (more {a = a} {l = l} n o) apart =
+    more (λ m. let s = in-map f l m in n (Memᴰ·cast (apart a (s .0) (List·Memᴰ·head refl) (List·Memᴰ·tail (s .1)) (s .2)) (s .1)))
+    (once-map f o (λ b c k m. apart b c (List·Memᴰ·tail k) (List·Memᴰ·tail m)))
+
+-- flattened, in one or in several lists
+pub flat-append : {A B : Type 0} (f : A → List B) (a b : List A) → flatMap f (a ++ b) ≡ flatMap f a ++ flatMap f b
+unfolding flatMap
+flat-append f [] b = refl
+flat-append f (t ∷ a) b = rw (flat-append f a b, append-assoc)
+
+pub flat-gather : {A B : Type 0} (f : A → List B) (g : ℕ → List A) (qs : List ℕ) → flatMap f (gather g qs) ≡ gather (λ q. flatMap f (g q)) qs
+unfolding flatMap gather
+flat-gather f g [] = refl
+flat-gather f g (q ∷ qs) = rw (flat-append f (g q) (gather g qs), flat-gather f g qs)
+
+pub gather-same : {A : Type 0} (f g : ℕ → List A) → ((q : ℕ) → f q ≡ g q) → (qs : List ℕ) → gather f qs ≡ gather g qs
+unfolding gather
+gather-same f g e [] = refl
+gather-same f g e (q ∷ qs) = rw (e q, gather-same f g e qs)
+
+-- of lists of one length, gathered, each is a part
+pub gather-part : {A : Type 0} (f : ℕ → List A) (n : ℕ) → ((q : ℕ) → length (f q) ≡ n) → (qs : List ℕ) (k : ℕ) → k < length qs
+    → take n (drop (k * n) (gather f qs)) ≡ f (getD qs k 0)
+unfolding gather
+gather-part f n e [] k h = absurd (omega arith)
+gather-part f n e (q ∷ qs) zero h = let z : 0 * n ≡ 0 = omega arith in rw z (take-at (f q) (gather f qs) n (e q))
+gather-part f n e (q ∷ qs) (suc k) h =
+    let s : suc k * n ≡ length (f q) + k * n = omega (arith, e q) in
+    rw (s, drop-append-add (f q) (gather f qs) (k * n)) (gather-part f n e qs k (omega arith))
+
+-- one number more in front of a list
+pub not-first : (a b : ℕ) {l : List ℕ} → (a ≡ b → ⊥) → (List·Memᴰ a l → ⊥) → List·Memᴰ a (b ∷ l) → ⊥
+not-first a b {l} n o m = pick (List·Memᴰ·cases-cons m)
+  where
+    pick : (a ≡ b) ⊎ List·Memᴰ a l → ⊥
+    pick (inl e) = n e
+    pick (inr k) = o k
+
+pub in-rest : {a b end : ℕ} {l : List ℕ} → b < end → (List·Memᴰ a l → a < end) → List·Memᴰ a (b ∷ l) → a < end
+in-rest {a} {b} {end} {l} h o m = pick (List·Memᴰ·cases-cons m)
+  where
+    pick : (a ≡ b) ⊎ List·Memᴰ a l → a < end
+    pick (inl e) = omega arith
+    pick (inr k) = o k

@@ -1,0 +1,4 @@
+pub mod Fns
+pub mod Laws
+pub mod Rust
+pub mod Theorems

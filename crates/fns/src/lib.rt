@@ -1,0 +1,105 @@
+// What fns.rs gives of one tile: its limits, its flipped row, its ancestors, and the zoom at which two columns and rows part.
+use constants::MAX_ZOOM;
+use errors::Check;
+use errors::Refusal;
+use errors::U32Answer;
+use tile::OptionU8;
+use tile::Tile;
+use tile::TileAnswer;
+ghost use mathlib.Core.Path.{_≡_};
+ghost use Prim.Native.Nat.{_<_};
+ghost use Rattle.errors.specs.Cases.{u32Case};
+ghost use Rattle.tile.specs.Given.{given};
+ghost use Rattle.tile.specs.OnMap.{tileCase};
+ghost use Rattle.fns.specs.Fns.{minMaxCase, minMaxOf, isTile, flipyOf, parentOf, differ, bbox2zoomOf};
+
+// The lowest and the highest column, and row, of a zoom.
+pub struct Limits {
+    pub min: u32,
+    pub max: u32,
+}
+
+pub enum LimitsAnswer {
+    Found(Limits),
+    Refused(Refusal),
+}
+
+pub fn minmax(zoom: u8) -> LimitsAnswer
+    ensures { λ r. ⌜ minMaxCase r ≡ minMaxOf zoom ⌝ }
+{
+    match tile::side(0, 0, zoom) {
+        U32Answer::Number(end) => LimitsAnswer::Found(Limits {
+            min: 0,
+            max: end - 1,
+        }),
+        U32Answer::Refused(why) => LimitsAnswer::Refused(why),
+    }
+}
+
+pub fn valid(x: u32, y: u32, z: u8) -> bool
+    ensures { λ r. ⌜ r ≡ isTile x y z ⌝ }
+{
+    match tile::check(x, y, z) {
+        Check::Fine => true,
+        Check::Refused(_) => false,
+    }
+}
+
+// The row counted from the other side of the map. Nothing is asked of the column.
+pub fn flipy(y: u32, z: u8) -> U32Answer
+    ensures { λ r. ⌜ u32Case r ≡ flipyOf y z ⌝ }
+{
+    match tile::side(0, y, z) {
+        U32Answer::Number(end) => U32Answer::Number(end - 1 - y),
+        U32Answer::Refused(why) => U32Answer::Refused(why),
+    }
+}
+
+pub fn yflip(y: u32, z: u8) -> U32Answer
+    ensures { λ r. ⌜ u32Case r ≡ flipyOf y z ⌝ }
+{
+    flipy(y, z)
+}
+
+// The ancestor 1 + n zooms up; n is extra steps, and no zoom.
+pub fn parent(x: u32, y: u32, z: u8, n: OptionU8) -> TileAnswer
+    ensures { λ r. ⌜ tileCase r ≡ parentOf x y z (given n 0) ⌝ }
+{
+    if let Check::Refused(why) = tile::check(x, y, z) {
+        return TileAnswer::Refused(why);
+    }
+    if z == 0 {
+        return TileAnswer::Refused(Refusal::NoRelative);
+    }
+    let steps = n.unwrap_or(0);
+    if steps == 0 {
+        return TileAnswer::Found(Tile {
+            x: x / 2,
+            y: y / 2,
+            z: z - 1,
+        });
+    }
+    parent(x / 2, y / 2, z - 1, OptionU8::Some(steps - 1))
+}
+
+// The zoom of the tile that holds a box of 32-bit corners: the bits of its columns, and of its rows, agree above it.
+pub fn bbox2zoom(west: u32, south: u32, east: u32, north: u32) -> u8
+    ensures { λ r. ⌜ r ≡ bbox2zoomOf west south east north ⌝ }
+{
+    let mut z: u8 = 0;
+    while z < 28 {
+        if apart(west, east, 31 - z) | apart(south, north, 31 - z) {
+            return z;
+        }
+        z += 1;
+    }
+    z
+}
+
+// Whether two numbers differ in a bit.
+fn apart(a: u32, b: u32, i: u8) -> bool
+    requires { ⌜ i < 32 ⌝ }
+    ensures { λ r. ⌜ r ≡ differ a b i ⌝ }
+{
+    (a >> i) % 2 != (b >> i) % 2
+}

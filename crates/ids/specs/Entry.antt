@@ -1,0 +1,44 @@
+-- The number that stands for a tile in a list, by this one name: today the one of `to_id`. Callers use the laws below, and not which number it is.
+use mathlib.Core.Path.{_≡_}
+use Prim.Native.Nat.{ℕ}
+use Rattle.errors.specs.Answer.{Answer, answer}
+use Rattle.tile.specs.OnMap.{OnMap, tileAt, noTile, tileRefusal, on-map-accepted}
+use Rattle.tile.specs.declared.Tile.{Tile}
+use Rattle.ids.specs.Id.{idOf, idTile, idRefusal}
+use Rattle.ids.specs.Laws.{id-again, tile-again, id-accepted, accepted-id}
+
+unfoldable pub entryOf : ℕ → ℕ → ℕ → ℕ
+entryOf x y z = idOf x y z
+
+-- the entry of what may be no tile: then 0
+abbrev pub entryNumber : ℕ → ℕ → ℕ → ℕ
+entryNumber x y z = answer (tileRefusal x y z) 0 (entryOf x y z) .value
+
+unfoldable pub entryTile : ℕ → Tile
+entryTile n = idTile n
+
+unfoldable pub entryRefusal : ℕ → ℕ
+entryRefusal n = idRefusal n
+
+abbrev pub entryTileOf : ℕ → Answer Tile
+entryTileOf n = answer (entryRefusal n) noTile (entryTile n)
+
+pub entry-of-tile : {x y z : ℕ} → OnMap x y z → entryNumber x y z ≡ entryOf x y z
+entry-of-tile m = rw (on-map-accepted m, entryNumber)
+
+pub entry-accepted : (n : ℕ) → OnMap (entryTile n .x) (entryTile n .y) (entryTile n .z) → entryRefusal n ≡ 0
+unfolding entryTile entryRefusal
+entry-accepted = id-accepted
+
+pub accepted-entry : (n : ℕ) → entryRefusal n ≡ 0 → OnMap (entryTile n .x) (entryTile n .y) (entryTile n .z)
+unfolding entryTile entryRefusal
+accepted-entry = accepted-id
+
+-- an entry is that of the tile that it takes apart to, and a tile the one of its entry
+pub entry-again : (n : ℕ) → entryOf (entryTile n .x) (entryTile n .y) (entryTile n .z) ≡ n
+unfolding entryOf entryTile
+entry-again = id-again
+
+pub entry-tile-again : (x y z : ℕ) → OnMap x y z → entryTile (entryOf x y z) ≡ tileAt x y z
+unfolding entryOf entryTile
+entry-tile-again = tile-again

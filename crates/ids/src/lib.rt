@@ -1,0 +1,144 @@
+// The numbers of fns.rs that stand for tiles: by the Mapbox coverage rule, and row by row from the root on.
+use constants::MAX_ZOOM;
+use errors::Check;
+use errors::Refusal;
+use errors::U64Answer;
+use tile::Tile;
+use tile::TileAnswer;
+ghost use mathlib.Core.Path.{_≡_};
+ghost use Prim.Native.Nat.{_<_, _≤_};
+ghost use Rattle.errors.specs.Cases.{u64Case};
+ghost use Rattle.tile.specs.OnMap.{OnMap, tileCase};
+ghost use Rattle.ids.specs.Entry.{entryNumber, entryTileOf};
+ghost use Rattle.ids.specs.Id.{idOf, toIdOf, fromIdOf};
+ghost use Rattle.ids.specs.Rmid.{levelStart, toRmidOf, zoomOf, offsetZoomCase, offsetZoomOf, fromRmidOf};
+
+pub fn to_id(x: u32, y: u32, z: u8) -> U64Answer
+    ensures { λ r. ⌜ u64Case r ≡ toIdOf x y z ⌝ }
+{
+    match tile::check(x, y, z) {
+        Check::Fine => U64Answer::Number(id(x, y, z)),
+        Check::Refused(why) => U64Answer::Refused(why),
+    }
+}
+
+fn id(x: u32, y: u32, z: u8) -> u64
+    requires { ⌜ OnMap x y z ⌝ }
+    ensures { λ r. ⌜ r ≡ idOf x y z ⌝ }
+{
+    (bits::wide_pow2(z + 1) * (y as u64) + (x as u64)) * 32 + (z as u64)
+}
+
+pub fn from_id(id: u64) -> TileAnswer
+    ensures { λ r. ⌜ tileCase r ≡ fromIdOf id ⌝ }
+{
+    let z = (id % 32) as u8;
+    if z > MAX_ZOOM {
+        return TileAnswer::Refused(Refusal::NoTile);
+    }
+    let place = id / 32;
+    let end = bits::wide_pow2(z);
+    let x = place % (2 * end);
+    let y = place / (2 * end);
+    if x >= end {
+        return TileAnswer::Refused(Refusal::NoTile);
+    }
+    if y >= end {
+        return TileAnswer::Refused(Refusal::NoTile);
+    }
+    TileAnswer::Found(Tile {
+        x: x as u32,
+        y: y as u32,
+        z,
+    })
+}
+
+// The number that stands for a tile in a list; 0 where x, y and z name no tile.
+pub fn entry(x: u32, y: u32, z: u8) -> u64
+    ensures { λ r. ⌜ r ≡ entryNumber x y z ⌝ }
+{
+    match to_id(x, y, z) {
+        U64Answer::Number(id) => id,
+        U64Answer::Refused(_) => 0,
+    }
+}
+
+// The tile that a number in a list stands for.
+pub fn entry_tile(entry: u64) -> TileAnswer
+    ensures { λ r. ⌜ tileCase r ≡ entryTileOf entry ⌝ }
+{
+    from_id(entry)
+}
+
+// A row-major number taken apart: the place within its zoom, and the zoom.
+pub struct OffsetZoom {
+    pub offset: u64,
+    pub zoom: u8,
+}
+
+pub enum OffsetZoomAnswer {
+    Found(OffsetZoom),
+    Refused(Refusal),
+}
+
+pub fn xyz2rmid(x: u32, y: u32, z: u8) -> U64Answer
+    ensures { λ r. ⌜ u64Case r ≡ toRmidOf x y z ⌝ }
+{
+    match tile::check(x, y, z) {
+        Check::Fine => U64Answer::Number(
+            level_start(z) + (x as u64) + (y as u64) * bits::wide_pow2(z),
+        ),
+        Check::Refused(why) => U64Answer::Refused(why),
+    }
+}
+
+// How many tiles the zooms above z have together.
+fn level_start(z: u8) -> u64
+    requires { ⌜ z ≤ 31 ⌝ }
+    ensures { λ r. ⌜ r ≡ levelStart z ⌝ }
+{
+    (bits::wide_pow2(2 * z) - 1) / 3
+}
+
+pub fn int_2_offset_zoom(i: u64) -> OffsetZoomAnswer
+    ensures { λ r. ⌜ offsetZoomCase r ≡ offsetZoomOf i ⌝ }
+{
+    if i >= level_start(MAX_ZOOM + 1) {
+        return OffsetZoomAnswer::Refused(Refusal::NoTile);
+    }
+    let zoom = zoom_of(i);
+    OffsetZoomAnswer::Found(OffsetZoom {
+        offset: i - level_start(zoom),
+        zoom,
+    })
+}
+
+// The deepest zoom whose tiles start at i or before it.
+fn zoom_of(i: u64) -> u8
+    ensures { λ r. ⌜ r ≡ zoomOf i ⌝ }
+{
+    let mut z = MAX_ZOOM;
+    while 0 < z {
+        if level_start(z) <= i {
+            return z;
+        }
+        z -= 1;
+    }
+    z
+}
+
+pub fn rmid2xyz(i: u64) -> TileAnswer
+    ensures { λ r. ⌜ tileCase r ≡ fromRmidOf i ⌝ }
+{
+    match int_2_offset_zoom(i) {
+        OffsetZoomAnswer::Found(at) => {
+            let columns = bits::wide_pow2(at.zoom);
+            TileAnswer::Found(Tile {
+                x: (at.offset % columns) as u32,
+                y: (at.offset / columns) as u32,
+                z: at.zoom,
+            })
+        }
+        OffsetZoomAnswer::Refused(why) => TileAnswer::Refused(why),
+    }
+}

@@ -1,0 +1,160 @@
+-- That the Rust's arms, and its steps by signed numbers, give the places of the square of nine.
+use mathlib.Core.Path.{_≡_, refl, sym, ap, _∙_}
+use mathlib.Core.Bool.{Bool, true, false, cond, _||_}
+use mathlib.Core.List.{List, [], _∷_, _++_, flatMap}
+use Prim.Native.Nat.{ℕ, _+_, _-_, _/_, _%_, _^_, _≤_, _<_}
+use native.Mathlib.Decide.{decLt}
+use native.Mathlib.Nat.{add-mod-right, mod-eq-of-lt}
+use native.Mathlib.Numerals.{add-one}
+use native.Mathlib.Omega.{arith}
+use lib.Dec.{leb, ltb, eqb}
+use lib.IntN.{ℤ, pos, negsuc, natAbs, _+ℤ_}
+use lib.Signed.{ltZ, leZ}
+use borrow.Author.Tests.{le-leb, lt-leb, le-ltb, lt-ltb, eqb-true, eqb-false}
+use Rattle.children.specs.Children.{gather}
+use Rattle.tile.specs.OnMap.{tileAt}
+use Rattle.tile.specs.declared.Tile.{Tile}
+use Rattle.neighbors.specs.Neighbors.{around, aroundWrapped, inside, near, nearWrapped}
+use Rattle.neighbors.specs.Rust.{neighborsArm, remEuclid, neighborIdxs, wrapStep, armBy, kept, struck}
+use Rattle.neighbors.specs.Laws.{below-one, near-off-row}
+
+-- where all tiles are on the map, none is struck out
+pub Within : List Tile → Type 0
+Within [] = Unit {0}
+Within (t ∷ ts) = (t .x < 2 ^ t .z) × (t .y < 2 ^ t .z) × Within ts
+
+pub none-struck : (ts : List Tile) → Within ts → struck ts ≡ ts
+unfolding flatMap Within
+none-struck [] w = refl
+none-struck (t ∷ ts) w = rw (lt-ltb _ _ (w .0), lt-ltb _ _ (w .1)) (ap (λ (l : List Tile). t ∷ l) (none-struck ts (w .2)))
+
+inside-is : (side n s a : ℕ) → n + s ≡ a + 1 → inside side n s ≡ ltb a side
+inside-is side n s a e = let h : 1 ≤ a + 1 = omega arith in rw (e, le-leb 1 (a + 1) h, add-one a)
+
+-- a place of the square by the tile that stands there; left of column 0 and above row 0 there is none
+module _ (x y z : ℕ) where
+  pub near-at : (s a b : ℕ) → x + s / 3 ≡ a + 1 → y + s % 3 ≡ b + 1 → near x y z s ≡ kept (tileAt a b z)
+  near-at s a b e f =
+      let p : x + s / 3 - 1 ≡ a = omega arith in
+      let q : y + s % 3 - 1 ≡ b = omega arith in
+      rw (inside-is (2 ^ z) x (s / 3) a e, inside-is (2 ^ z) y (s % 3) b f, p, q)
+
+  no-column : (s : ℕ) → x + s / 3 < 1 → near x y z s ≡ []
+  no-column s h = rw (below-one (2 ^ z) x (s / 3) h)
+
+  no-row : (s : ℕ) → y + s % 3 < 1 → near x y z s ≡ []
+  no-row s h = sym (near-off-row false x y z s (below-one (2 ^ z) y (s % 3) h))
+
+  -- the square in its order, by what stands at the five places that column 0 or row 0 may lack
+  square : {w n nw ne sw : List Tile} → near x y z 1 ≡ w → near x y z 3 ≡ n → near x y z 0 ≡ nw → near x y z 6 ≡ ne → near x y z 2 ≡ sw
+      → kept (tileAt (x + 1) y z) ++ (kept (tileAt x (y + 1) z) ++ (kept (tileAt (x + 1) (y + 1) z) ++ (w ++ (n ++ (nw ++ (ne ++ (sw ++ [])))))))
+      ≡ gather (near x y z) around
+  unfolding gather
+  square p q r s t =
+      rw (
+        near-at 7 (x + 1) y (omega arith) (omega arith),
+        near-at 5 x (y + 1) (omega arith) (omega arith),
+        near-at 8 (x + 1) (y + 1) (omega arith) (omega arith),
+        p,
+        q,
+        r,
+        s,
+        t,
+      )
+
+  -- the four arms that a tile of the map may take
+  pub arm-struck : (a : Bool) → eqb x 0 ≡ a → (b : Bool) → eqb y 0 ≡ b → struck (neighborsArm (armBy a b) x y z) ≡ gather (near x y z) around
+  unfolding flatMap
+  arm-struck true p true q =
+      let e = eqb-true x 0 p in
+      let f = eqb-true y 0 q in
+      square (no-column 1 (omega arith)) (no-row 3 (omega arith)) (no-column 0 (omega arith)) (no-row 6 (omega arith)) (no-column 2 (omega arith))
+  arm-struck true p false q =
+      let e = eqb-true x 0 p in
+      let f = eqb-false y 0 q in
+      square (no-column 1 (omega arith)) (near-at 3 x (y - 1) (omega arith) (omega arith)) (no-column 0 (omega arith)) (near-at 6 (x + 1) (y - 1) (omega arith) (omega arith)) (no-column 2 (omega arith))
+  arm-struck false p true q =
+      let e = eqb-false x 0 p in
+      let f = eqb-true y 0 q in
+      square (near-at 1 (x - 1) y (omega arith) (omega arith)) (no-row 3 (omega arith)) (no-row 0 (omega arith)) (no-row 6 (omega arith)) (near-at 2 (x - 1) (y + 1) (omega arith) (omega arith))
+  arm-struck false p false q =
+      let e = eqb-false x 0 p in
+      let f = eqb-false y 0 q in
+      square (near-at 1 (x - 1) y (omega arith) (omega arith)) (near-at 3 x (y - 1) (omega arith) (omega arith)) (near-at 0 (x - 1) (y - 1) (omega arith) (omega arith)) (near-at 6 (x + 1) (y - 1) (omega arith) (omega arith)) (near-at 2 (x - 1) (y + 1) (omega arith) (omega arith))
+
+  -- away from the right and bottom edges an arm's tiles are on the map
+  pub arm-within : (a b : Bool) → x < 2 ^ z - 1 → y < 2 ^ z - 1 → Within (neighborsArm (armBy a b) x y z)
+  unfolding Within
+  arm-within true true h k = omega arith
+  arm-within true false h k = omega arith
+  arm-within false true h k = omega arith
+  arm-within false false h k = omega arith
+
+-- a signed step of the Rust, and the step 0, 1 or 2 that stands for it here
+data Means : ℤ → ℕ → Type 0 where
+  back : Means (negsuc 0) 0
+  stay : Means (pos 0) 1
+  on : Means (pos 1) 2
+
+signed-sum : {d : ℤ} {s : ℕ} → Means d s → (n : ℕ) → 0 < n + s → pos n +ℤ d ≡ pos (n + s - 1)
+signed-sum back n h = let l : 1 ≤ n = omega arith in let e : n - 1 ≡ n + 0 - 1 = omega arith in rw (le-ltb n 1 l, e)
+signed-sum stay n h = let e : n + 0 ≡ n + 1 - 1 = omega arith in ap pos e
+signed-sum on n h = let e : n + 1 ≡ n + 2 - 1 = omega arith in ap pos e
+
+below-zero : {d : ℤ} {s : ℕ} → Means d s → (n : ℕ) → n + s ≡ 0 → pos n +ℤ d ≡ negsuc 0
+below-zero back n h = let e : n ≡ 0 = omega arith in rw e
+below-zero stay n h = absurd (omega arith)
+below-zero on n h = absurd (omega arith)
+
+wrapped-column : {d : ℤ} {s : ℕ} → Means d s → (x side : ℕ) → x < side → remEuclid (pos x +ℤ d) side ≡ (x + s + side - 1) % side
+wrapped-column {d} {s} p x side h = pick (decLt 0 (x + s))
+  where
+    pick : Dec (0 < x + s) → remEuclid (pos x +ℤ d) side ≡ (x + s + side - 1) % side
+    pick (yes k) = let e : x + s + side - 1 ≡ x + s - 1 + side = omega arith in rw (signed-sum p x k, e, add-mod-right (x + s - 1) side)
+    pick (no k) =
+        let e : x + s ≡ 0 = omega arith in
+        let f : x + s + side - 1 ≡ side - 1 = omega arith in
+        let l : side - 1 < side = omega arith in
+        let m : 0 < side = omega arith in
+        let g : side - 1 - 0 ≡ side - 1 = omega arith in
+        rw (below-zero p x e, f, mod-eq-of-lt l, mod-eq-of-lt m, g)
+
+row-kept : (side n : ℕ) (t : Tile) → cond (ltZ (pos n) (pos 0) || leZ (pos side) (pos n)) [] (t ∷ []) ≡ cond (ltb n side) (t ∷ []) []
+row-kept side n t = pick (decLt n side)
+  where
+    z : 0 ≤ n
+    z = omega arith
+
+    pick : Dec (n < side) → cond (ltb n 0 || leb side n) [] (t ∷ []) ≡ cond (ltb n side) (t ∷ []) []
+    pick (yes h) = rw (le-ltb n 0 z, lt-ltb n side h, lt-leb side n h)
+    pick (no h) = let l : side ≤ n = omega arith in rw (le-ltb n 0 z, le-leb side n l, le-ltb n side l)
+
+wrapped-row : {d : ℤ} {s : ℕ} → Means d s → (y side : ℕ) (t : ℕ → Tile)
+    → cond (ltZ (pos y +ℤ d) (pos 0) || leZ (pos side) (pos y +ℤ d)) [] (t (natAbs (pos y +ℤ d)) ∷ []) ≡ cond (inside side y s) (t (y + s - 1) ∷ []) []
+wrapped-row {d} {s} p y side t = pick (decLt 0 (y + s))
+  where
+    pick : Dec (0 < y + s) → cond (ltZ (pos y +ℤ d) (pos 0) || leZ (pos side) (pos y +ℤ d)) [] (t (natAbs (pos y +ℤ d)) ∷ []) ≡ cond (inside side y s) (t (y + s - 1) ∷ []) []
+    pick (yes k) =
+        let e : y + s ≡ y + s - 1 + 1 = omega arith in
+        rw (signed-sum p y k, inside-is side y s (y + s - 1) e) (row-kept side (y + s - 1) (t (y + s - 1)))
+    pick (no k) =
+        let e : y + s ≡ 0 = omega arith in
+        let l : y + s < 1 = omega arith in
+        rw (below-zero p y e, below-one side y s l)
+
+wrapped-step : (x y z s : ℕ) {dx dy : ℤ} → Means dx (s / 3) → Means dy (s % 3) → x < 2 ^ z → wrapStep x y z dx dy ≡ nearWrapped x y z s
+wrapped-step x y z s {dx} p q h = wrapped-row q y (2 ^ z) (λ r. tileAt (remEuclid (pos x +ℤ dx) (2 ^ z)) r z) ∙ rw (wrapped-column p x (2 ^ z) h)
+
+pub wrapped-square : (x y z : ℕ) → x < 2 ^ z → flatMap (λ (d : ℤ × ℤ). wrapStep x y z (d .0) (d .1)) neighborIdxs ≡ gather (nearWrapped x y z) aroundWrapped
+unfolding flatMap gather
+wrapped-square x y z h =
+    rw (
+      wrapped-step x y z 0 back back h,
+      wrapped-step x y z 1 back stay h,
+      wrapped-step x y z 2 back on h,
+      wrapped-step x y z 3 stay back h,
+      wrapped-step x y z 5 stay on h,
+      wrapped-step x y z 6 on back h,
+      wrapped-step x y z 7 on stay h,
+      wrapped-step x y z 8 on on h,
+    )

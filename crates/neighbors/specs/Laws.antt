@@ -1,0 +1,188 @@
+-- Laws of the tiles beside a tile: that they are on the map, and how a list of them fills up.
+use mathlib.Core.Path.{_≡_, refl, sym, ap, _∙_}
+use mathlib.Core.Bool.{Bool, true, false, cond, _&&_}
+use mathlib.Core.List.{List, [], _∷_, _++_, map-append, append-assoc, append-nil}
+use Prim.Native.Nat.{ℕ, zero, suc, _+_, _-_, _/_, _%_, _^_, _≤_, _<_}
+use native.Mathlib.Nat.{pow-suc, mod-lt, add-zero}
+use native.Mathlib.Numerals.{add-one}
+use native.Mathlib.Omega.{arith}
+use lib.Dec.{leb, ltb}
+use lib.ListN.{length, take, drop, getD, set, length-append, length-map, length-drop, take-append-drop}
+use lib.Pow.{pow-pos}
+use lib.Seq.{take-suc, take-at, drop-at, drop-drop, take-length, set-split}
+use borrow.Author.Tests.{le-leb, lt-leb, le-ltb, leb-true, ltb-true}
+use Rattle.bits.specs.Tests.{and-parts}
+use Rattle.children.specs.Children.{gather, entriesOf}
+use Rattle.children.specs.Laws.{gather-append}
+use Rattle.errors.specs.Answer.{answer, written}
+use Rattle.errors.specs.Cases.{countCase, left}
+use Rattle.errors.specs.declared.Count.{Count}
+use Rattle.tile.specs.OnMap.{OnMap, tileAt}
+use Rattle.tile.specs.declared.Tile.{Tile}
+use Rattle.neighbors.specs.Neighbors.{other, neighborsOf, inside, nearOf, orderOf, spotTiles, SpotOnMap, pasted}
+use Rattle.neighbors.specs.declared.Spot.{Spot}
+use Rattle.neighbors.specs.declared.Spot.the-variants.{At, Off}
+
+-- the other tiles of a family are on the map
+pub other-small : (n z : ℕ) → 0 < z → n < 2 ^ z → other n < 2 ^ z
+other-small n zero h l = absurd (omega arith)
+other-small n (suc z) h l = omega (arith, pow-suc 2 z)
+
+pub three-places : (a b c : ℕ) (memory : List ℕ) → 3 ≤ length memory → set (set (set memory 0 a) 1 b) 2 c ≡ a ∷ b ∷ c ∷ drop 3 memory
+three-places a b c [] h = absurd (omega arith)
+three-places a b c (p ∷ []) h = absurd (omega arith)
+three-places a b c (p ∷ (q ∷ [])) h = absurd (omega arith)
+three-places a b c (p ∷ (q ∷ (r ∷ memory))) h = refl
+
+pub eight : (wrap : Bool) → length (orderOf wrap) ≡ 8
+eight true = refl
+eight false = refl
+
+allBelow : ℕ → List ℕ → Bool
+allBelow m [] = true
+allBelow m (a ∷ l) = ltb a m && allBelow m l
+
+entry-below : (m : ℕ) (l : List ℕ) (k : ℕ) → allBelow m l ≡ true → k < length l → getD l k 0 < m
+unfolding allBelow
+entry-below m [] k e h = absurd (omega arith)
+entry-below m (a ∷ l) zero e h = ltb-true a m (and-parts (ltb a m) (allBelow m l) e .0)
+entry-below m (a ∷ l) (suc k) e h = entry-below m l k (and-parts (ltb a m) (allBelow m l) e .1) (omega arith)
+
+-- a place that is gone through is one of the nine
+pub one-of-nine : (wrap : Bool) (k : ℕ) → k < 8 → getD (orderOf wrap) k 0 < 9
+unfolding allBelow
+one-of-nine true k h = entry-below 9 (orderOf true) k refl h
+one-of-nine false k h = entry-below 9 (orderOf false) k refl h
+
+-- the tiles found among the first k places
+abbrev pub found : Bool → ℕ → ℕ → ℕ → ℕ → List Tile
+found wrap x y z k = gather (nearOf wrap x y z) (take k (orderOf wrap))
+
+pub found-more : (wrap : Bool) (x y z k : ℕ) → k < 8 → found wrap x y z (k + 1) ≡ found wrap x y z k ++ nearOf wrap x y z (getD (orderOf wrap) k 0)
+unfolding gather
+found-more wrap x y z k h =
+    rw (add-one k, take-suc (orderOf wrap) k 0 (rw (eight wrap) h), gather-append (nearOf wrap x y z) (take k (orderOf wrap)) (getD (orderOf wrap) k 0 ∷ []), append-nil)
+
+pub found-all : (wrap : Bool) (x y z : ℕ) → found wrap x y z 8 ≡ gather (nearOf wrap x y z) (orderOf wrap)
+found-all wrap x y z = ap (λ (n : ℕ). found wrap x y z n) (sym (eight wrap)) ∙ ap (gather (nearOf wrap x y z)) (take-length (orderOf wrap))
+
+-- no more are found among the first places than among all
+pub found-within : (wrap : Bool) (x y z k : ℕ) → length (found wrap x y z k) ≤ length (gather (nearOf wrap x y z) (orderOf wrap))
+found-within wrap x y z k =
+    let f = nearOf wrap x y z in
+    let e = ap (λ (l : List Tile). length l) (sym (gather-append f (take k (orderOf wrap)) (drop k (orderOf wrap))) ∙ ap (gather f) (take-append-drop k (orderOf wrap))) in
+    omega (arith, e, length-append (gather f (take k (orderOf wrap))) (gather f (drop k (orderOf wrap))))
+
+pub count-more : (wrap : Bool) (x y z k n : ℕ) (spot : Spot) → k < 8 → n ≡ length (found wrap x y z k) → spotTiles z spot ≡ nearOf wrap x y z (getD (orderOf wrap) k 0)
+    → n + length (spotTiles z spot) ≡ length (found wrap x y z (k + 1))
+count-more wrap x y z k n spot h e f = rw (found-more wrap x y z k h, length-append, ← f, e)
+
+-- what one place has is written
+pub fill-more : (wrap : Bool) (x y z k n : ℕ) (spot : Spot) (memory out : List ℕ) → k < 8 → n ≡ length (found wrap x y z k)
+    → out ≡ entriesOf (found wrap x y z k) ++ drop n memory → spotTiles z spot ≡ nearOf wrap x y z (getD (orderOf wrap) k 0)
+    → pasted n (entriesOf (spotTiles z spot)) out ≡ entriesOf (found wrap x y z (k + 1)) ++ drop (n + length (spotTiles z spot)) memory
+fill-more wrap x y z k n spot memory out h e f g =
+    let done = entriesOf (found wrap x y z k) in
+    let l : length done ≡ n = length-map (found wrap x y z k) _ ∙ sym e in
+    rw (
+      f,
+      take-at done (drop n memory) n l,
+      ← drop-drop (length (entriesOf (spotTiles z spot))) n (done ++ drop n memory),
+      drop-at done (drop n memory) n l,
+      drop-drop,
+      length-map,
+      found-more wrap x y z k h,
+      ← g,
+      map-append,
+      append-assoc,
+    )
+
+pub fill-length : (wrap : Bool) (x y z k n : ℕ) (memory out : List ℕ) → n ≡ length (found wrap x y z k) → n ≤ length memory
+    → out ≡ entriesOf (found wrap x y z k) ++ drop n memory → length out ≡ length memory
+fill-length wrap x y z k n memory out e h f = ap (λ (l : List ℕ). length l) f ∙ rw (length-append, length-map, ← e, length-drop) (omega arith)
+
+inside-bounds : (side n s : ℕ) → inside side n s ≡ true → n + s - 1 < side
+inside-bounds side n s e = let p = and-parts (leb 1 (n + s)) (leb (n + s) side) e in omega (arith, leb-true 1 (n + s) (p .0), leb-true (n + s) side (p .1))
+
+-- a list that holds one tile on a test, and that tile, passes the test
+kept-is : (b : Bool) (s t : Tile) → s ∷ [] ≡ cond b (t ∷ []) [] → (b ≡ true) × (s ≡ t)
+kept-is true s t e = (refl, cc)
+kept-is false s t e = let z : _≡_ {A = ℕ} 0 1 = cc in absurd (omega arith)
+
+-- a place that is on the map is a tile of it
+pub near-on-map : (wrap : Bool) (x y z s c r : ℕ) → OnMap x y z → spotTiles z (At c r) ≡ nearOf wrap x y z s → OnMap c r z
+near-on-map true x y z s c r m e =
+    let k = kept-is (inside (2 ^ z) y (s % 3)) (tileAt c r z) (tileAt ((x + s / 3 + 2 ^ z - 1) % 2 ^ z) (y + s % 3 - 1) z) e in
+    let a : c ≡ (x + s / 3 + 2 ^ z - 1) % 2 ^ z = ap (λ (t : Tile). t .x) (k .1) in
+    let b : r ≡ y + s % 3 - 1 = ap (λ (t : Tile). t .y) (k .1) in
+    record { zoom = m .zoom; column = rw a (mod-lt (x + s / 3 + 2 ^ z - 1) (pow-pos z)); row = rw b (inside-bounds (2 ^ z) y (s % 3) (k .0)) }
+near-on-map false x y z s c r m e =
+    let k = kept-is (inside (2 ^ z) x (s / 3) && inside (2 ^ z) y (s % 3)) (tileAt c r z) (tileAt (x + s / 3 - 1) (y + s % 3 - 1) z) e in
+    let p = and-parts (inside (2 ^ z) x (s / 3)) (inside (2 ^ z) y (s % 3)) (k .0) in
+    let a : c ≡ x + s / 3 - 1 = ap (λ (t : Tile). t .x) (k .1) in
+    let b : r ≡ y + s % 3 - 1 = ap (λ (t : Tile). t .y) (k .1) in
+    record { zoom = m .zoom; column = rw a (inside-bounds (2 ^ z) x (s / 3) (p .0)); row = rw b (inside-bounds (2 ^ z) y (s % 3) (p .1)) }
+
+pub spot-on-map : (wrap : Bool) (x y z s : ℕ) (spot : Spot) → OnMap x y z → spotTiles z spot ≡ nearOf wrap x y z s → SpotOnMap z spot
+spot-on-map wrap x y z s (At c r) m e = near-on-map wrap x y z s c r m e
+spot-on-map wrap x y z s Off m e = tt
+
+pub paste-one : (n v : ℕ) (memory : List ℕ) → n < length memory → set memory n v ≡ pasted n (v ∷ []) memory
+paste-one n v memory h = rw (set-split memory n v h, add-one n)
+
+pub paste-none : (n : ℕ) (memory : List ℕ) → memory ≡ pasted n [] memory
+paste-none n memory = rw add-zero (sym (take-append-drop n memory))
+
+-- the tests of a place, as the code makes them
+pub near-off-row : (wrap : Bool) (x y z s : ℕ) → inside (2 ^ z) y (s % 3) ≡ false → [] ≡ nearOf wrap x y z s
+near-off-row true x y z s e = rw e
+near-off-row false x y z s e = rw e (pick (inside (2 ^ z) x (s / 3)))
+  where
+    pick : (b : Bool) → [] ≡ cond (b && false) (tileAt (x + s / 3 - 1) (y + s % 3 - 1) z ∷ []) []
+    pick true = refl
+    pick false = refl
+
+pub below-one : (side n s : ℕ) → n + s < 1 → inside side n s ≡ false
+below-one side n s h = rw (lt-leb _ _ h)
+
+pub past-side : (side n s : ℕ) → side < n + s → inside side n s ≡ false
+past-side side n s h = rw (lt-leb (n + s) side h) (pick (leb 1 (n + s)))
+  where
+    pick : (b : Bool) → b && false ≡ false
+    pick true = refl
+    pick false = refl
+
+pub within-side : (side n s : ℕ) → 1 ≤ n + s → n + s ≤ side → inside side n s ≡ true
+within-side side n s h l = rw (le-leb _ _ h, le-leb _ _ l)
+
+-- a place has one tile at most, so k places have k
+near-most : (wrap : Bool) (x y z s : ℕ) → length (nearOf wrap x y z s) ≤ 1
+near-most true x y z s = pick (inside (2 ^ z) y (s % 3))
+  where
+    pick : (b : Bool) → length (cond b (tileAt ((x + s / 3 + 2 ^ z - 1) % 2 ^ z) (y + s % 3 - 1) z ∷ []) []) ≤ 1
+    pick true = omega arith
+    pick false = omega arith
+near-most false x y z s = pick (inside (2 ^ z) x (s / 3) && inside (2 ^ z) y (s % 3))
+  where
+    pick : (b : Bool) → length (cond b (tileAt (x + s / 3 - 1) (y + s % 3 - 1) z ∷ []) []) ≤ 1
+    pick true = omega arith
+    pick false = omega arith
+
+most-gathered : (wrap : Bool) (x y z : ℕ) (l : List ℕ) → length (gather (nearOf wrap x y z) l) ≤ length l
+unfolding gather
+most-gathered wrap x y z [] = omega arith
+most-gathered wrap x y z (s ∷ l) =
+    omega (arith, length-append (nearOf wrap x y z s) (gather (nearOf wrap x y z) l), near-most wrap x y z s, most-gathered wrap x y z l)
+
+pub found-most : (wrap : Bool) (x y z : ℕ) → length (gather (nearOf wrap x y z) (orderOf wrap)) ≤ 8
+found-most wrap x y z = omega (arith, most-gathered wrap x y z (orderOf wrap), eight wrap)
+
+pub neighbors-deep : (wrap : Bool) (x y z : ℕ) → (z ≡ 0 → ⊥) → (z ≡ 1 → ⊥) → neighborsOf wrap x y z ≡ gather (nearOf wrap x y z) (orderOf wrap)
+neighbors-deep wrap x y zero p q = absurd (p refl)
+neighbors-deep wrap x y (suc zero) p q = absurd (q refl)
+neighbors-deep wrap x y (suc (suc z)) p q = refl
+
+-- a call that has nothing to write needs no memory
+pub none-written : (n : ℕ) (r : Count) (memory : List ℕ) → countCase r ≡ answer n 0 0 → left r memory ≡ written n [] memory
+none-written zero r memory e = let h : 0 ≤ length memory = omega arith in rw (e, le-ltb (length memory) 0 h)
+none-written (suc n) r memory e = rw e

@@ -1,0 +1,193 @@
+-- What is in the lists of tiles beside a tile, and that it is there once.
+use mathlib.Core.Path.{_≡_, refl, sym, ap, _∙_}
+use mathlib.Core.Bool.{Bool, true, false, cond, not, _&&_, _||_}
+use mathlib.Core.Logic.{_⊎_, inl, inr}
+use mathlib.Core.List.{List, [], _∷_, List·Memᴰ, List·Memᴰ·head, List·Memᴰ·tail, List·Memᴰ·not-nil, List·Memᴰ·cases-cons, List·Memᴰ·eq-of-singleton}
+use Prim.Native.Nat.{ℕ, zero, suc, _+_, _-_, _*_, _/_, _%_, _^_, _≤_, _<_}
+use native.Mathlib.Nat.{add-mod-right, mod-add-mod, mod-eq-of-lt}
+use native.Mathlib.Omega.{arith}
+use lib.Dec.{leb, ltb, eqb}
+use borrow.Author.Tests.{lt-ltb, leb-true, ltb-true, eqb-true, eqb-false}
+use Rattle.children.specs.Children.{gather}
+use Rattle.children.specs.Members.{Once, none, more, once-gather}
+use Rattle.tile.specs.OnMap.{OnMap, tileAt}
+use Rattle.tile.specs.Order.{tile-ext}
+use Rattle.tile.specs.declared.Tile.{Tile}
+use Rattle.neighbors.specs.Neighbors.{around, inside, near, nearOf, orderOf}
+use Rattle.bits.specs.Tests.{and-parts}
+use Rattle.neighbors.specs.Laws.{near-on-map}
+use Rattle.neighbors.specs.AsRust.{near-at}
+
+every : (ℕ → Bool) → List ℕ → Bool
+every p [] = true
+every p (a ∷ l) = p a && every p l
+
+every-mem : (p : ℕ → Bool) (l : List ℕ) {s : ℕ} → every p l ≡ true → List·Memᴰ s l → p s ≡ true
+unfolding every
+every-mem p [] e m = absurd (List·Memᴰ·not-nil m)
+every-mem p (a ∷ l) {s} e m = let k = and-parts (p a) (every p l) e in pick (List·Memᴰ·cases-cons m) (k .0) (every-mem p l (k .1))
+  where
+    pick : (s ≡ a) ⊎ List·Memᴰ s l → p a ≡ true → (List·Memᴰ s l → p s ≡ true) → p s ≡ true
+    pick (inl f) h below = rw f h
+    pick (inr n) h below = below n
+
+holds : ℕ → List ℕ → Bool
+holds s [] = false
+holds s (a ∷ l) = eqb s a || holds s l
+
+holds-mem : (s : ℕ) (l : List ℕ) → holds s l ≡ true → List·Memᴰ s l
+unfolding holds
+holds-mem s [] e = let z : _≡_ {A = ℕ} 0 1 = cc in absurd (omega arith)
+holds-mem s (a ∷ l) e = pick (eqb s a) refl e (holds-mem s l)
+  where
+    pick : (b : Bool) → eqb s a ≡ b → b || holds s l ≡ true → (holds s l ≡ true → List·Memᴰ s l) → List·Memᴰ s (a ∷ l)
+    pick true p f below = List·Memᴰ·head (eqb-true s a p)
+    pick false p f below = List·Memᴰ·tail (below f)
+
+-- the places that are gone through are those of the nine that are not the tile's own
+abbrev notMiddle : ℕ → Bool
+notMiddle s = ltb s 9 && not (eqb s 4)
+
+never-middle : (wrap : Bool) → every notMiddle (orderOf wrap) ≡ true
+unfolding every
+never-middle true = refl
+never-middle false = refl
+
+not-true : (b : Bool) → not b ≡ true → b ≡ false
+not-true true e = let z : _≡_ {A = ℕ} 0 1 = cc in absurd (omega arith)
+not-true false e = refl
+
+pub around-place : (wrap : Bool) {s : ℕ} → List·Memᴰ s (orderOf wrap) → (s < 9) × (s ≡ 4 → ⊥)
+around-place wrap {s} m =
+    let p = and-parts (ltb s 9) (not (eqb s 4)) (every-mem notMiddle (orderOf wrap) (never-middle wrap) m) in
+    (ltb-true s 9 (p .0), eqb-false s 4 (not-true (eqb s 4) (p .1)))
+
+pub place-around : (s : ℕ) → s < 9 → (s ≡ 4 → ⊥) → List·Memᴰ s around
+unfolding holds
+place-around s h k = holds-mem s around (found-at s h k)
+  where
+    found-at : (n : ℕ) → n < 9 → (n ≡ 4 → ⊥) → holds n around ≡ true
+    found-at zero h k = refl
+    found-at (suc zero) h k = refl
+    found-at (suc (suc zero)) h k = refl
+    found-at (suc (suc (suc zero))) h k = refl
+    found-at (suc (suc (suc (suc zero)))) h k = absurd (k refl)
+    found-at (suc (suc (suc (suc (suc zero))))) h k = refl
+    found-at (suc (suc (suc (suc (suc (suc zero)))))) h k = refl
+    found-at (suc (suc (suc (suc (suc (suc (suc zero))))))) h k = refl
+    found-at (suc (suc (suc (suc (suc (suc (suc (suc zero)))))))) h k = refl
+    found-at (suc (suc (suc (suc (suc (suc (suc (suc (suc n))))))))) h k = absurd (omega arith)
+
+-- a tile at a place of the square has passed the tests of that place
+mem-test : (b : Bool) {t u : Tile} → List·Memᴰ t (cond b (u ∷ []) []) → (b ≡ true) × (t ≡ u)
+mem-test true m = (refl, List·Memᴰ·eq-of-singleton m)
+mem-test false m = absurd (List·Memᴰ·not-nil m)
+
+pub record Placed (x y z s : ℕ) (t : Tile) : Type 0 where
+  pub column : t .x + 1 ≡ x + s / 3
+  pub row : t .y + 1 ≡ y + s % 3
+  pub zoom : t .z ≡ z
+  pub column-small : t .x < 2 ^ z
+  pub row-small : t .y < 2 ^ z
+
+pub near-placed : (x y z s : ℕ) (t : Tile) → List·Memᴰ t (near x y z s) → Placed x y z s t
+near-placed x y z s t m =
+    let k = mem-test (inside (2 ^ z) x (s / 3) && inside (2 ^ z) y (s % 3)) m in
+    let p = and-parts (inside (2 ^ z) x (s / 3)) (inside (2 ^ z) y (s % 3)) (k .0) in
+    let c = and-parts (leb 1 (x + s / 3)) (leb (x + s / 3) (2 ^ z)) (p .0) in
+    let r = and-parts (leb 1 (y + s % 3)) (leb (y + s % 3) (2 ^ z)) (p .1) in
+    let c1 = leb-true 1 (x + s / 3) (c .0) in
+    let c2 = leb-true (x + s / 3) (2 ^ z) (c .1) in
+    let r1 = leb-true 1 (y + s % 3) (r .0) in
+    let r2 = leb-true (y + s % 3) (2 ^ z) (r .1) in
+    let a : t .x ≡ x + s / 3 - 1 = ap (λ (u : Tile). u .x) (k .1) in
+    let b : t .y ≡ y + s % 3 - 1 = ap (λ (u : Tile). u .y) (k .1) in
+    record { column = omega arith; row = omega arith; zoom = ap (λ (u : Tile). u .z) (k .1); column-small = omega arith; row-small = omega arith }
+
+pub placed-near : (x y z s : ℕ) (t : Tile) → Placed x y z s t → List·Memᴰ t (near x y z s)
+placed-near x y z s t p =
+    let e : t ≡ tileAt (t .x) (t .y) z = tile-ext t (tileAt (t .x) (t .y) z) refl refl (p .zoom) in
+    rw (near-at x y z s (t .x) (t .y) (sym (p .column)) (sym (p .row)), lt-ltb _ _ (p .column-small), lt-ltb _ _ (p .row-small)) (List·Memᴰ·head e)
+
+-- a tile at a place of the square, on either kind of map, is the one tile of that place
+near-one : (wrap : Bool) (x y z s : ℕ) (t : Tile) → List·Memᴰ t (nearOf wrap x y z s) → (tileAt (t .x) (t .y) z ∷ [] ≡ nearOf wrap x y z s) × (t .z ≡ z)
+near-one true x y z s t m =
+    let k = mem-test (inside (2 ^ z) y (s % 3)) m in
+    (rw (k .0) (ap (λ (u : Tile). tileAt (u .x) (u .y) z ∷ []) (k .1)), ap (λ (u : Tile). u .z) (k .1))
+near-one false x y z s t m =
+    let k = mem-test (inside (2 ^ z) x (s / 3) && inside (2 ^ z) y (s % 3)) m in
+    (rw (k .0) (ap (λ (u : Tile). tileAt (u .x) (u .y) z ∷ []) (k .1)), ap (λ (u : Tile). u .z) (k .1))
+
+pub mem-on-map : (wrap : Bool) (x y z s : ℕ) (t : Tile) → OnMap x y z → List·Memᴰ t (nearOf wrap x y z s) → OnMap (t .x) (t .y) (t .z)
+mem-on-map wrap x y z s t m k = let e = near-one wrap x y z s t k in rw (e .1) (near-on-map wrap x y z s (t .x) (t .y) m (e .0))
+
+-- the place of a tile in the square
+abbrev placeOf : Bool → ℕ → ℕ → ℕ → Tile → ℕ
+placeOf true x y side t = 3 * ((t .x + (1 + (side - x))) % side) + (t .y + 1 - y)
+placeOf false x y side t = 3 * (t .x + 1 - x) + (t .y + 1 - y)
+
+wrapped-back : (x c side : ℕ) → x < side → c < side → ((x + c + side - 1) % side + (1 + (side - x))) % side ≡ c
+wrapped-back x c side h k =
+    let e : x + c + side - 1 + (1 + (side - x)) ≡ c + side + side = omega arith in
+    rw (mod-add-mod (x + c + side - 1) side (1 + (side - x)), e, add-mod-right (c + side) side, add-mod-right c side, mod-eq-of-lt k)
+
+pub place-back : (wrap : Bool) (x y z s : ℕ) (t : Tile) → x < 2 ^ z → 4 ≤ 2 ^ z → s < 9 → List·Memᴰ t (nearOf wrap x y z s) → placeOf wrap x y (2 ^ z) t ≡ s
+place-back true x y z s t h f n m =
+    let k = mem-test (inside (2 ^ z) y (s % 3)) m in
+    let r = and-parts (leb 1 (y + s % 3)) (leb (y + s % 3) (2 ^ z)) (k .0) in
+    let l = leb-true 1 (y + s % 3) (r .0) in
+    let a : t .x ≡ (x + s / 3 + 2 ^ z - 1) % 2 ^ z = ap (λ (u : Tile). u .x) (k .1) in
+    let b : t .y ≡ y + s % 3 - 1 = ap (λ (u : Tile). u .y) (k .1) in
+    let c : s / 3 < 2 ^ z = omega arith in
+    rw (a, wrapped-back x (s / 3) (2 ^ z) h c) (omega arith)
+place-back false x y z s t h f n m = let p = near-placed x y z s t m in omega (arith, p .column, p .row)
+
+pub place-self : (wrap : Bool) (x y z : ℕ) → x < 2 ^ z → 4 ≤ 2 ^ z → placeOf wrap x y (2 ^ z) (tileAt x y z) ≡ 4
+place-self true x y z h f =
+    let e : x + (1 + (2 ^ z - x)) ≡ 1 + 2 ^ z = omega arith in
+    let l : 1 < 2 ^ z = omega arith in
+    rw (e, add-mod-right 1 (2 ^ z), mod-eq-of-lt l) (omega arith)
+place-self false x y z h f = omega arith
+
+mem-holds : {s : ℕ} (l : List ℕ) → List·Memᴰ s l → holds s l ≡ true
+unfolding holds
+mem-holds [] m = absurd (List·Memᴰ·not-nil m)
+mem-holds {s} (a ∷ l) m = pick (List·Memᴰ·cases-cons m) (mem-holds l) (eqb s a) refl
+  where
+    pick : (s ≡ a) ⊎ List·Memᴰ s l → (List·Memᴰ s l → holds s l ≡ true) → (b : Bool) → eqb s a ≡ b → b || holds s l ≡ true
+    pick c below true e = refl
+    pick (inl f) below false e = absurd (eqb-false s a e f)
+    pick (inr k) below false e = below k
+
+distinct : List ℕ → Bool
+distinct [] = true
+distinct (a ∷ l) = not (holds a l) && distinct l
+
+distinct-once : (l : List ℕ) → distinct l ≡ true → Once l
+unfolding distinct
+distinct-once [] e = none
+distinct-once (a ∷ l) e = let p = and-parts (not (holds a l)) (distinct l) e in more (λ m. clash (holds a l) (mem-holds l m) (p .0)) (distinct-once l (p .1))
+  where
+    clash : (b : Bool) → b ≡ true → not b ≡ true → ⊥
+    clash true e f = let z : _≡_ {A = ℕ} 0 1 = cc in omega arith
+    clash false e f = let z : _≡_ {A = ℕ} 0 1 = cc in omega arith
+
+order-once : (wrap : Bool) → Once (orderOf wrap)
+unfolding distinct holds
+order-once true = distinct-once (orderOf true) refl
+order-once false = distinct-once (orderOf false) refl
+
+one-at-most : (b : Bool) (t : Tile) → Once (cond b (t ∷ []) [])
+one-at-most true t = more List·Memᴰ·not-nil none
+one-at-most false t = none
+
+near-once : (wrap : Bool) (x y z s : ℕ) → Once (nearOf wrap x y z s)
+near-once true x y z s = one-at-most (inside (2 ^ z) y (s % 3)) (tileAt ((x + s / 3 + 2 ^ z - 1) % 2 ^ z) (y + s % 3 - 1) z)
+near-once false x y z s = one-at-most (inside (2 ^ z) x (s / 3) && inside (2 ^ z) y (s % 3)) (tileAt (x + s / 3 - 1) (y + s % 3 - 1) z)
+
+-- a tile tells the place that it is from, so no two places have it
+pub around-once : (wrap : Bool) (x y z : ℕ) → x < 2 ^ z → 4 ≤ 2 ^ z → Once (gather (nearOf wrap x y z) (orderOf wrap))
+around-once wrap x y z h f = once-gather (nearOf wrap x y z) (order-once wrap) (near-once wrap x y z) (λ t q r k m i j. sym (place t q k i) ∙ place t r m j)
+  where
+    place : (t : Tile) (s : ℕ) → List·Memᴰ s (orderOf wrap) → List·Memᴰ t (nearOf wrap x y z s) → placeOf wrap x y (2 ^ z) t ≡ s
+    place t s k m = place-back wrap x y z s t h f (around-place wrap k .0) m

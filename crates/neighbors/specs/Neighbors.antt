@@ -1,0 +1,80 @@
+-- The tiles beside a tile, in the Rust's orders, as document 01 states them.
+use mathlib.Core.Bool.{Bool, true, false, cond, _&&_}
+use mathlib.Core.List.{List, [], _∷_, _++_}
+use Prim.Native.Nat.{ℕ, zero, suc, _+_, _-_, _*_, _/_, _%_, _^_}
+use lib.Dec.{leb, eqb}
+use lib.ListN.{length, take, drop}
+use Rattle.children.specs.Children.{gather, entriesOf}
+use Rattle.errors.specs.Answer.{Lent, written, _when_, _else_}
+use Rattle.tile.specs.OnMap.{OnMap, tileAt, tileRefusal}
+use Rattle.tile.specs.declared.Tile.{Tile}
+use Rattle.neighbors.specs.declared.Spot.{Spot}
+use Rattle.neighbors.specs.declared.Spot.the-variants.{At, Off}
+
+-- the other column, or row, of a family: 2k and 2k + 1 stand for each other
+abbrev pub other : ℕ → ℕ
+other n = 2 * (n / 2) + (1 - n % 2)
+
+-- beside it, above or below it, and across
+abbrev pub siblingsOf : ℕ → ℕ → ℕ → List Tile
+siblingsOf x y z = tileAt (other x) y z ∷ tileAt x (other y) z ∷ tileAt (other x) (other y) z ∷ []
+
+abbrev pub siblingsWritten : ℕ → ℕ → ℕ → List ℕ → Lent ℕ
+siblingsWritten x y z memory = written (tileRefusal x y z else 3 when eqb z 0) (entriesOf (siblingsOf x y z)) memory
+
+-- the orders in which the square of nine around a tile is gone through. Its places are numbered column by column:
+--     0 3 6
+--     1 4 7
+--     2 5 8
+abbrev pub around : List ℕ
+around = 7 ∷ 5 ∷ 8 ∷ 1 ∷ 3 ∷ 0 ∷ 6 ∷ 2 ∷ []
+
+abbrev pub aroundWrapped : List ℕ
+aroundWrapped = 0 ∷ 1 ∷ 2 ∷ 3 ∷ 5 ∷ 6 ∷ 7 ∷ 8 ∷ []
+
+-- place n + s − 1 of an axis of so many places, for a step s of 0, 1 or 2
+abbrev pub inside : ℕ → ℕ → ℕ → Bool
+inside side n s = leb 1 (n + s) && leb (n + s) side
+
+-- place s of the square, struck out where it is off the map
+abbrev pub near : ℕ → ℕ → ℕ → ℕ → List Tile
+near x y z s = cond (inside (2 ^ z) x (s / 3) && inside (2 ^ z) y (s % 3)) (tileAt (x + s / 3 - 1) (y + s % 3 - 1) z ∷ []) []
+
+-- the same where the last column stands beside the first
+abbrev pub nearWrapped : ℕ → ℕ → ℕ → ℕ → List Tile
+nearWrapped x y z s = cond (inside (2 ^ z) y (s % 3)) (tileAt ((x + s / 3 + 2 ^ z - 1) % 2 ^ z) (y + s % 3 - 1) z ∷ []) []
+
+-- the two kinds: on a map that wraps in x, and on one that does not
+abbrev pub orderOf : Bool → List ℕ
+orderOf true = aroundWrapped
+orderOf false = around
+
+abbrev pub nearOf : Bool → ℕ → ℕ → ℕ → ℕ → List Tile
+nearOf true = nearWrapped
+nearOf false = near
+
+-- zoom 0 none, zoom 1 the siblings
+abbrev pub neighborsOf : Bool → ℕ → ℕ → ℕ → List Tile
+neighborsOf wrap x y zero = []
+neighborsOf wrap x y (suc zero) = siblingsOf x y 1
+neighborsOf wrap x y (suc (suc z)) = gather (nearOf wrap x y (suc (suc z))) (orderOf wrap)
+
+abbrev pub neighborsWritten : Bool → ℕ → ℕ → ℕ → List ℕ → Lent ℕ
+neighborsWritten wrap x y z memory = written (tileRefusal x y z) (entriesOf (neighborsOf wrap x y z)) memory
+
+-- the same from zoom 2 on
+abbrev pub aroundWritten : Bool → ℕ → ℕ → ℕ → List ℕ → Lent ℕ
+aroundWritten wrap x y z memory = written (tileRefusal x y z) (entriesOf (gather (nearOf wrap x y z) (orderOf wrap))) memory
+
+-- how the code holds a place of the square
+abbrev pub spotTiles : ℕ → Spot → List Tile
+spotTiles z (At x y) = tileAt x y z ∷ []
+spotTiles z Off = []
+
+abbrev pub SpotOnMap : ℕ → Spot → Type 0
+SpotOnMap z (At x y) = OnMap x y z
+SpotOnMap z Off = Unit {0}
+
+-- a list written over another from place n on
+abbrev pub pasted : ℕ → List ℕ → List ℕ → List ℕ
+pasted n items memory = take n memory ++ (items ++ drop (n + length items) memory)

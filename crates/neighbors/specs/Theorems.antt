@@ -1,0 +1,216 @@
+-- What the definitions of this crate come to, in document 01's words, and that the Rust gives the same lists. Nothing is assumed.
+use mathlib.Core.Path.{_≡_, refl, sym, ap, ap₂, _∙_}
+use mathlib.Core.Bool.{Bool, true, false}
+use mathlib.Core.Logic.{_↔_, _⊎_, inl, inr}
+use mathlib.Core.List.{List, [], _∷_, List·Memᴰ, List·Memᴰ·head, List·Memᴰ·tail, List·Memᴰ·not-nil, List·Memᴰ·cases-cons, List·Memᴰ·eq-of-singleton, List·Nodup, Pairwise·nil}
+use Prim.Native.Nat.{ℕ, zero, suc, _+_, _-_, _*_, _/_, _%_, _^_, _≤_, _<_}
+use native.Mathlib.Nat.{pow-suc}
+use native.Mathlib.Omega.{arith}
+use lib.Dec.{eqb}
+use lib.Pow.{pow-pos}
+use borrow.Author.Tests.{eqb-true, eqb-false, ne-eqb}
+use Rattle.children.specs.Members.{in-gather, into-gather, none, more, once-nodup}
+use Rattle.children.specs.Children.{gather}
+use Rattle.tile.specs.OnMap.{OnMap, tileAt}
+use Rattle.tile.specs.Order.{tile-ext}
+use Rattle.tile.specs.declared.Tile.{Tile}
+use Rattle.neighbors.specs.Neighbors.{other, siblingsOf, around, near, nearOf, orderOf, neighborsOf}
+use Rattle.neighbors.specs.Laws.{neighbors-deep}
+use Rattle.neighbors.specs.AsRust.{none-struck, arm-struck, arm-within, wrapped-square}
+use Rattle.neighbors.specs.Members.{around-place, place-around, Placed, near-placed, placed-near, mem-on-map, place-back, place-self, around-once}
+use Rattle.neighbors.specs.Rust.{siblingsArm, rustSiblings, edgeBy, rustEdge, neighborsArm, rustNeighbors, rustNeighborsWrapX, armBy, armOf, struck}
+
+-- "`siblings` in the Rust's order": its four arms are one list
+pub rust-siblings : (x y z : ℕ) → rustSiblings x y z ≡ siblingsOf x y z
+rust-siblings x y z = pick (eqb (x % 2) 0) refl (eqb (y % 2) 0) refl
+  where
+    three : ℕ → ℕ → List Tile
+    three a b = tileAt a y z ∷ tileAt x b z ∷ tileAt a b z ∷ []
+
+    next : (n : ℕ) → eqb (n % 2) 0 ≡ true → n + 1 ≡ other n
+    next n e = omega (arith, eqb-true (n % 2) 0 e)
+
+    last : (n : ℕ) → eqb (n % 2) 0 ≡ false → n - 1 ≡ other n
+    last n e = omega (arith, eqb-false (n % 2) 0 e)
+
+    pick : (a : Bool) → eqb (x % 2) 0 ≡ a → (b : Bool) → eqb (y % 2) 0 ≡ b → siblingsArm a b x y z ≡ siblingsOf x y z
+    pick true p true q = ap₂ three (next x p) (next y q)
+    pick true p false q = ap₂ three (next x p) (last y q)
+    pick false p true q = ap₂ three (last x p) (next y q)
+    pick false p false q = ap₂ three (last x p) (last y q)
+
+-- siblings are just the other tiles of the family: those of the tile's zoom with its parent
+pub record Sibling (x y z : ℕ) (t : Tile) : Type 0 where
+  pub zoom : t .z ≡ z
+  pub parent : (t .x / 2 ≡ x / 2) × (t .y / 2 ≡ y / 2)
+  pub another : t .x ≡ x → t .y ≡ y → ⊥
+
+pub exactly-the-others-of-the-family : (x y z : ℕ) (t : Tile) → List·Memᴰ t (siblingsOf x y z) ↔ Sibling x y z t
+exactly-the-others-of-the-family x y z t = (λ m. first (List·Memᴰ·cases-cons m), λ s. find s (eqb (t .x) x) refl (eqb (t .y) y) refl)
+  where
+    named : {a b : ℕ} → t ≡ tileAt a b z → (t .x ≡ a) × (t .y ≡ b) × (t .z ≡ z)
+    named e = (ap (λ (u : Tile). u .x) e, ap (λ (u : Tile). u .y) e, ap (λ (u : Tile). u .z) e)
+
+    later : (t ≡ tileAt x (other y) z) ⊎ List·Memᴰ t (tileAt (other x) (other y) z ∷ []) → Sibling x y z t
+    later (inl e) = let n = named e in record { zoom = n .2; parent = omega arith; another = λ p q. omega arith }
+    later (inr m) = let n = named (List·Memᴰ·eq-of-singleton m) in record { zoom = n .2; parent = omega arith; another = λ p q. omega arith }
+
+    first : (t ≡ tileAt (other x) y z) ⊎ List·Memᴰ t (tileAt x (other y) z ∷ tileAt (other x) (other y) z ∷ []) → Sibling x y z t
+    first (inl e) = let n = named e in record { zoom = n .2; parent = omega arith; another = λ p q. omega arith }
+    first (inr m) = later (List·Memᴰ·cases-cons m)
+
+    find : Sibling x y z t → (a : Bool) → eqb (t .x) x ≡ a → (b : Bool) → eqb (t .y) y ≡ b → List·Memᴰ t (siblingsOf x y z)
+    find s true p true q = absurd (s .another (eqb-true (t .x) x p) (eqb-true (t .y) y q))
+    find s false p true q =
+        let c : t .x ≡ other x = omega (arith, eqb-false (t .x) x p) in
+        List·Memᴰ·head (tile-ext t (tileAt (other x) y z) c (eqb-true (t .y) y q) (s .zoom))
+    find s true p false q =
+        let r : t .y ≡ other y = omega (arith, eqb-false (t .y) y q) in
+        List·Memᴰ·tail (List·Memᴰ·head (tile-ext t (tileAt x (other y) z) (eqb-true (t .x) x p) r (s .zoom)))
+    find s false p false q =
+        let c : t .x ≡ other x = omega (arith, eqb-false (t .x) x p) in
+        let r : t .y ≡ other y = omega (arith, eqb-false (t .y) y q) in
+        List·Memᴰ·tail (List·Memᴰ·tail (List·Memᴰ·head (tile-ext t (tileAt (other x) (other y) z) c r (s .zoom))))
+
+pub siblings-on-the-map : (x y z : ℕ) (t : Tile) → OnMap x y z → 0 < z → List·Memᴰ t (siblingsOf x y z) → OnMap (t .x) (t .y) (t .z)
+siblings-on-the-map x y zero t m h k = absurd (omega arith)
+siblings-on-the-map x y (suc z) t m h k =
+    let s = exactly-the-others-of-the-family x y (suc z) t .0 k in
+    let c = m .column in
+    let r = m .row in
+    rw (s .zoom) (record { zoom = m .zoom; column = omega (arith, pow-suc 2 z, s .parent); row = omega (arith, pow-suc 2 z, s .parent) })
+
+pub each-sibling-once : (x y z : ℕ) → List·Nodup (siblingsOf x y z)
+each-sibling-once x y z = once-nodup (more first (more second (more List·Memᴰ·not-nil none)))
+  where
+    same : {a b c d : ℕ} → tileAt a b z ≡ tileAt c d z → (a ≡ c) × (b ≡ d)
+    same e = (ap (λ (u : Tile). u .x) e, ap (λ (u : Tile). u .y) e)
+
+    second : List·Memᴰ (tileAt x (other y) z) (tileAt (other x) (other y) z ∷ []) → ⊥
+    second m = let e : x ≡ other x = same (List·Memᴰ·eq-of-singleton m) .0 in omega arith
+
+    pick : (tileAt (other x) y z ≡ tileAt x (other y) z) ⊎ List·Memᴰ (tileAt (other x) y z) (tileAt (other x) (other y) z ∷ []) → ⊥
+    pick (inl e) = let f : other x ≡ x = same e .0 in omega arith
+    pick (inr m) = let f : y ≡ other y = same (List·Memᴰ·eq-of-singleton m) .1 in omega arith
+
+    first : List·Memᴰ (tileAt (other x) y z) (tileAt x (other y) z ∷ tileAt (other x) (other y) z ∷ []) → ⊥
+    first m = pick (List·Memᴰ·cases-cons m)
+
+-- "`neighbors`: zoom 0 none, zoom 1 the siblings. Both are compared throughout."
+pub rust-neighbors-zoom-0 : (x y : ℕ) → rustNeighbors x y 0 ≡ neighborsOf false x y 0
+rust-neighbors-zoom-0 x y = refl
+
+pub rust-neighbors-zoom-1 : (x y : ℕ) → rustNeighbors x y 1 ≡ neighborsOf false x y 1
+rust-neighbors-zoom-1 x y = rust-siblings x y 1
+
+-- "From zoom 2 `tile_edge_info` compares with 2^z, so a tile on the right or bottom edge is taken for another kind": of the nine only four are met
+pub the-kinds-of-the-map : (x y z : ℕ) → x < 2 ^ z → y < 2 ^ z → rustEdge x y z ≡ armOf x y
+the-kinds-of-the-map x y z h k = rw (ne-eqb x (2 ^ z) (λ e. omega arith), ne-eqb y (2 ^ z) (λ e. omega arith)) (pick (eqb x 0) (eqb y 0))
+  where
+    pick : (a b : Bool) → edgeBy a b false false ≡ armBy a b
+    pick true true = refl
+    pick true false = refl
+    pick false true = refl
+    pick false false = refl
+
+-- "on those edges our list is that arm's list with off-map tiles struck out", and so it is everywhere
+pub that-arms-list-struck-out : (x y z : ℕ) → 2 ≤ z → struck (neighborsArm (armOf x y) x y z) ≡ neighborsOf false x y z
+that-arms-list-struck-out x y z d =
+    arm-struck x y z (eqb x 0) refl (eqb y 0) refl ∙ sym (neighbors-deep false x y z (λ e. omega arith) (λ e. omega arith))
+
+rust-arm : (x y z : ℕ) → 2 ≤ z → x < 2 ^ z → y < 2 ^ z → rustNeighbors x y z ≡ neighborsArm (armOf x y) x y z
+rust-arm x y zero d h k = absurd (omega arith)
+rust-arm x y (suc zero) d h k = absurd (omega arith)
+rust-arm x y (suc (suc z)) d h k = rw (the-kinds-of-the-map x y (suc (suc z)) h k)
+
+pub rust-neighbors-struck-out : (x y z : ℕ) → 2 ≤ z → OnMap x y z → struck (rustNeighbors x y z) ≡ neighborsOf false x y z
+rust-neighbors-struck-out x y z d m = rw (rust-arm x y z d (m .column) (m .row)) (that-arms-list-struck-out x y z d)
+
+-- "There the Rust is compared for x and y below 2^z − 1"
+pub rust-neighbors : (x y z : ℕ) → 2 ≤ z → x < 2 ^ z - 1 → y < 2 ^ z - 1 → rustNeighbors x y z ≡ neighborsOf false x y z
+rust-neighbors x y z d h k =
+    rust-arm x y z d (omega arith) (omega arith)
+    ∙ (sym (none-struck (neighborsArm (armOf x y) x y z) (arm-within x y z (eqb x 0) (eqb y 0) h k)) ∙ that-arms-list-struck-out x y z d)
+
+-- "`neighbors_wrap_x` as in the Rust"
+pub rust-neighbors-wrap-x : (x y z : ℕ) → OnMap x y z → rustNeighborsWrapX x y z ≡ neighborsOf true x y z
+rust-neighbors-wrap-x x y zero m = refl
+rust-neighbors-wrap-x x y (suc zero) m = rust-siblings x y 1
+rust-neighbors-wrap-x x y (suc (suc z)) m = wrapped-square x y (suc (suc z)) (m .column)
+
+-- a tile of the map beside (x, y, z): of its zoom, at most one column and one row away, and not that tile
+pub record Beside (x y z : ℕ) (t : Tile) : Type 0 where
+  pub zoom : t .z ≡ z
+  pub on-map : (t .x < 2 ^ z) × (t .y < 2 ^ z)
+  pub columns : (t .x ≤ x + 1) × (x ≤ t .x + 1)
+  pub rows : (t .y ≤ y + 1) × (y ≤ t .y + 1)
+  pub another : t .x ≡ x → t .y ≡ y → ⊥
+
+beside-around : (x y z : ℕ) (t : Tile) → List·Memᴰ t (gather (near x y z) around) ↔ Beside x y z t
+beside-around x y z t = (there, back)
+  where
+    there : List·Memᴰ t (gather (near x y z) around) → Beside x y z t
+    there m =
+        let r = in-gather (near x y z) around m in
+        let n = around-place false (r .1) in
+        let p = near-placed x y z (r .0) t (r .2) in
+        record { zoom = p .zoom; on-map = omega arith; columns = omega arith; rows = omega arith; another = λ e f. n .1 (omega arith) }
+
+    back : Beside x y z t → List·Memᴰ t (gather (near x y z) around)
+    back b =
+        let s = 3 * (t .x + 1 - x) + (t .y + 1 - y) in
+        let c : s / 3 ≡ t .x + 1 - x = omega (arith, b .rows) in
+        let r : s % 3 ≡ t .y + 1 - y = omega (arith, b .rows) in
+        let p : Placed x y z s t = record { column = omega arith; row = omega arith; zoom = b .zoom; column-small = b .on-map .0; row-small = b .on-map .1 } in
+        into-gather (near x y z) s around (place-around s (omega (arith, b .columns, b .rows)) (λ e. b .another (omega arith) (omega arith))) (placed-near x y z s t p)
+
+-- the neighbours of a tile are just the tiles of the map beside it, at every zoom
+pub exactly-the-tiles-beside-it : (x y z : ℕ) (t : Tile) → OnMap x y z → List·Memᴰ t (neighborsOf false x y z) ↔ Beside x y z t
+exactly-the-tiles-beside-it x y zero t m =
+    let c = m .column in
+    let r = m .row in
+    (λ k. absurd (List·Memᴰ·not-nil k), λ b. absurd (b .another (omega (arith, b .on-map)) (omega (arith, b .on-map))))
+exactly-the-tiles-beside-it x y (suc zero) t m = (λ k. there (family .0 k), λ b. family .1 (back b))
+  where
+    family : List·Memᴰ t (siblingsOf x y 1) ↔ Sibling x y 1 t
+    family = exactly-the-others-of-the-family x y 1 t
+
+    there : Sibling x y 1 t → Beside x y 1 t
+    there s =
+        let c = m .column in
+        let r = m .row in
+        record { zoom = s .zoom; on-map = omega (arith, s .parent); columns = omega (arith, s .parent); rows = omega (arith, s .parent); another = s .another }
+
+    back : Beside x y 1 t → Sibling x y 1 t
+    back b =
+        let c = m .column in
+        let r = m .row in
+        record { zoom = b .zoom; parent = omega (arith, b .on-map); another = b .another }
+exactly-the-tiles-beside-it x y (suc (suc z)) t m = beside-around x y (suc (suc z)) t
+
+wide : (z : ℕ) → 4 ≤ 2 ^ suc (suc z)
+wide z = omega (arith, pow-suc 2 (suc z), pow-suc 2 z, pow-pos z)
+
+-- on either kind of map every neighbour is a tile of the map, ..
+pub neighbors-on-the-map : (wrap : Bool) (x y z : ℕ) (t : Tile) → OnMap x y z → List·Memᴰ t (neighborsOf wrap x y z) → OnMap (t .x) (t .y) (t .z)
+neighbors-on-the-map wrap x y zero t m k = absurd (List·Memᴰ·not-nil k)
+neighbors-on-the-map wrap x y (suc zero) t m k = siblings-on-the-map x y 1 t m (omega arith) k
+neighbors-on-the-map wrap x y (suc (suc z)) t m k =
+    let r = in-gather (nearOf wrap x y (suc (suc z))) (orderOf wrap) k in
+    mem-on-map wrap x y (suc (suc z)) (r .0) t m (r .2)
+
+-- .. none is the tile itself, ..
+pub never-the-tile-itself : (wrap : Bool) (x y z : ℕ) → OnMap x y z → List·Memᴰ (tileAt x y z) (neighborsOf wrap x y z) → ⊥
+never-the-tile-itself wrap x y zero m k = List·Memᴰ·not-nil k
+never-the-tile-itself wrap x y (suc zero) m k = exactly-the-others-of-the-family x y 1 (tileAt x y 1) .0 k .another refl refl
+never-the-tile-itself wrap x y (suc (suc z)) m k =
+    let r = in-gather (nearOf wrap x y (suc (suc z))) (orderOf wrap) k in
+    let n = around-place wrap (r .1) in
+    let e = place-back wrap x y (suc (suc z)) (r .0) (tileAt x y (suc (suc z))) (m .column) (wide z) (n .0) (r .2) in
+    n .1 (sym e ∙ place-self wrap x y (suc (suc z)) (m .column) (wide z))
+
+-- .. and each is there once
+pub each-neighbour-once : (wrap : Bool) (x y z : ℕ) → OnMap x y z → List·Nodup (neighborsOf wrap x y z)
+each-neighbour-once wrap x y zero m = Pairwise·nil
+each-neighbour-once wrap x y (suc zero) m = each-sibling-once x y 1
+each-neighbour-once wrap x y (suc (suc z)) m = once-nodup (around-once wrap x y (suc (suc z)) (m .column) (wide z))

@@ -1,0 +1,200 @@
+// The tiles beside a tile, as list entries: its siblings, its neighbours, and its neighbours on a map that wraps in x.
+use errors::Check;
+use errors::Count;
+use errors::Refusal;
+use errors::U32Answer;
+ghost use mathlib.Core.Path.{_≡_};
+ghost use mathlib.Core.Bool.{true, false};
+ghost use mathlib.Core.List.{_++_};
+ghost use Prim.Native.Nat.{_+_, _^_, _<_, _≤_};
+ghost use lib.ListN.{length, drop, getD};
+ghost use Rattle.errors.specs.Answer.{answer};
+ghost use Rattle.errors.specs.Cases.{countCase, left};
+ghost use Rattle.tile.specs.OnMap.{OnMap, tileRefusal};
+ghost use Rattle.children.specs.Children.{gather, entriesOf};
+ghost use Rattle.neighbors.specs.Neighbors.{other, siblingsWritten, orderOf, nearOf, spotTiles, neighborsWritten, aroundWritten, SpotOnMap, pasted};
+
+// The places of the square of nine around a tile, numbered column by column from 0; the tile itself is place 4.
+const AROUND: [u8; 8] = [7, 5, 8, 1, 3, 0, 6, 2];
+
+const AROUND_WRAPPED: [u8; 8] = [0, 1, 2, 3, 5, 6, 7, 8];
+
+// A place of that square, where it is on the map.
+pub enum Spot {
+    At { x: u32, y: u32 },
+    Off,
+}
+
+pub fn siblings(x: u32, y: u32, z: u8, out: &mut [u64]) -> Count
+    ensures { λ r. ⌜ left r (now (out .exit)) ≡ siblingsWritten x y z (now (out .entry)) ⌝ }
+{
+    if let Check::Refused(why) = tile::check(x, y, z) {
+        return Count::Refused(why);
+    }
+    if z == 0 {
+        return Count::Refused(Refusal::NoRelative);
+    }
+    if out.len() < 3 {
+        return Count::Refused(Refusal::Memory);
+    }
+    out[0] = ids::entry(beside(x), y, z);
+    out[1] = ids::entry(x, beside(y), z);
+    out[2] = ids::entry(beside(x), beside(y), z);
+    Count::Counted(3)
+}
+
+// The other column, or row, of a family.
+fn beside(n: u32) -> u32
+    ensures { λ r. ⌜ r ≡ other n ⌝ }
+{
+    if n % 2 == 0 { n + 1 } else { n - 1 }
+}
+
+pub fn neighbors(x: u32, y: u32, z: u8, out: &mut [u64]) -> Count
+    ensures { λ r. ⌜ left r (now (out .exit)) ≡ neighborsWritten false x y z (now (out .entry)) ⌝ }
+{
+    near(false, x, y, z, out)
+}
+
+// The map wraps in x: the last column stands beside the first.
+pub fn neighbors_wrap_x(x: u32, y: u32, z: u8, out: &mut [u64]) -> Count
+    ensures { λ r. ⌜ left r (now (out .exit)) ≡ neighborsWritten true x y z (now (out .entry)) ⌝ }
+{
+    near(true, x, y, z, out)
+}
+
+fn near(wrap: bool, x: u32, y: u32, z: u8, out: &mut [u64]) -> Count
+    ensures { λ r. ⌜ left r (now (out .exit)) ≡ neighborsWritten wrap x y z (now (out .entry)) ⌝ }
+{
+    match z {
+        0 => none(x, y, z),
+        1 => siblings(x, y, z, out),
+        _ => around(wrap, x, y, z, out),
+    }
+}
+
+// At zoom 0 there is nothing beside a tile, and no memory is needed.
+fn none(x: u32, y: u32, z: u8) -> Count
+    ensures { λ r. ⌜ countCase r ≡ answer (tileRefusal x y z) 0 0 ⌝ }
+{
+    match tile::check(x, y, z) {
+        Check::Fine => Count::Counted(0),
+        Check::Refused(why) => Count::Refused(why),
+    }
+}
+
+// The tiles of the square of nine that are on the map, on one that wraps in x or not.
+fn around(wrap: bool, x: u32, y: u32, z: u8, out: &mut [u64]) -> Count
+    ensures { λ r. ⌜ left r (now (out .exit)) ≡ aroundWritten wrap x y z (now (out .entry)) ⌝ }
+{
+    match tile::side(x, y, z) {
+        U32Answer::Number(end) => {
+            let n = count(wrap, x, y, z, end);
+            if out.len() < n {
+                return Count::Refused(Refusal::Memory);
+            }
+            fill(wrap, x, y, z, end, out);
+            Count::Counted(n)
+        }
+        U32Answer::Refused(why) => Count::Refused(why),
+    }
+}
+
+fn count(wrap: bool, x: u32, y: u32, z: u8, end: u32) -> usize
+    requires { ⌜ OnMap x y z ⌝ }
+    requires { ⌜ end ≡ 2 ^ z ⌝ }
+    ensures { λ r. ⌜ r ≡ length (gather (nearOf wrap x y z) (orderOf wrap)) ⌝ }
+{
+    let mut n = 0;
+    let mut k = 0;
+    while k < 8 {
+        n += tiles(z, spot_at(wrap, x, y, z, end, k));
+        k += 1;
+    }
+    n
+}
+
+// How many tiles a place has: one, or none where it is off the map.
+fn tiles(z: u8, spot: Spot) -> usize
+    ensures { λ r. ⌜ r ≡ length (spotTiles z spot) ⌝ }
+{
+    match spot {
+        Spot::At { x: _, y: _ } => 1,
+        Spot::Off => 0,
+    }
+}
+
+fn fill(wrap: bool, x: u32, y: u32, z: u8, end: u32, out: &mut [u64])
+    requires { ⌜ OnMap x y z ⌝ }
+    requires { ⌜ end ≡ 2 ^ z ⌝ }
+    requires { ⌜ length (gather (nearOf wrap x y z) (orderOf wrap)) ≤ length (now out) ⌝ }
+    ensures { λ _. ⌜ now (out .exit) ≡ entriesOf (gather (nearOf wrap x y z) (orderOf wrap)) ++ drop (length (gather (nearOf wrap x y z) (orderOf wrap))) (now (out .entry)) ⌝ }
+{
+    let mut n = 0;
+    let mut k = 0;
+    while k < 8 {
+        n = put(out, n, z, spot_at(wrap, x, y, z, end, k));
+        k += 1;
+    }
+}
+
+// The entry of a place's tile goes to place n of the list, and n to the next; nothing changes where the place is off the map.
+fn put(out: &mut [u64], n: usize, z: u8, spot: Spot) -> usize
+    requires { ⌜ SpotOnMap z spot ⌝ }
+    requires { ⌜ n + length (spotTiles z spot) ≤ length (now out) ⌝ }
+    ensures { λ r. ⌜ r ≡ n + length (spotTiles z spot) ⌝ }
+    ensures { λ _. ⌜ now (out .exit) ≡ pasted n (entriesOf (spotTiles z spot)) (now (out .entry)) ⌝ }
+{
+    match spot {
+        Spot::At { x, y } => {
+            out[n] = ids::entry(x, y, z);
+            n + 1
+        }
+        Spot::Off => n,
+    }
+}
+
+// What stands at the k-th place that is gone through.
+fn spot_at(wrap: bool, x: u32, y: u32, z: u8, end: u32, k: usize) -> Spot
+    requires { ⌜ OnMap x y z ⌝ }
+    requires { ⌜ end ≡ 2 ^ z ⌝ }
+    requires { ⌜ k < 8 ⌝ }
+    ensures { λ r. ⌜ spotTiles z r ≡ nearOf wrap x y z (getD (orderOf wrap) k 0) ⌝ }
+{
+    let s = place(wrap, k);
+    let across = x + s / 3;
+    let along = y + s % 3;
+    if along < 1 {
+        return Spot::Off;
+    }
+    if end < along {
+        return Spot::Off;
+    }
+    if wrap {
+        return Spot::At {
+            x: (across + end - 1) % end,
+            y: along - 1,
+        };
+    }
+    if across < 1 {
+        return Spot::Off;
+    }
+    if end < across {
+        return Spot::Off;
+    }
+    Spot::At {
+        x: across - 1,
+        y: along - 1,
+    }
+}
+
+fn place(wrap: bool, k: usize) -> u32
+    requires { ⌜ k < 8 ⌝ }
+    ensures { λ r. ⌜ r ≡ getD (orderOf wrap) k 0 ⌝ }
+{
+    if wrap {
+        AROUND_WRAPPED[k] as u32
+    } else {
+        AROUND[k] as u32
+    }
+}
