@@ -1,0 +1,237 @@
+// Replays the calls of `tile_zbox`: prints each line whose answer is not the Rust's.
+use errors::Count;
+use errors::U64Answer;
+use replay::answers;
+use replay::answers::BLANK;
+use replay::args;
+use replay::args::ByteArg;
+use replay::args::TileArg;
+use replay::args::U32Arg;
+use replay::calls;
+use replay::parts;
+use tile::Tile;
+use tile_zbox::BoolAnswer;
+use tile_zbox::BoxAnswer;
+use tile_zbox::ExtentAnswer;
+use tile_zbox::NextAnswer;
+use tile_zbox::TileZBox;
+use tile_zbox::TileZBoxIterator;
+
+enum BoxArg {
+    Given(TileZBox),
+    Bad,
+}
+
+fn main() {
+    let mut text = io::large_buffer();
+    let mut numbers = calls::numbers();
+    let mut call = calls::first(&mut text, &mut numbers);
+    // A list ends long before the turns do.
+    let mut turns = u64::MAX;
+    while turns > 0 && call.found {
+        let name = calls::name(&text, call);
+        let same = replayed(
+            name,
+            calls::args(&numbers, call),
+            calls::answer(&numbers, call),
+        );
+        call = calls::next(&mut text, &mut numbers, call, same);
+        turns -= 1;
+    }
+}
+
+// Whether the call answers what the list says.
+fn replayed(name: &[u8], given: &[u64], want: &[u64]) -> bool {
+    if check::same(name, b"from_tile") {
+        return from_tile(given, want);
+    }
+    if check::same(name, b"from_tiles") {
+        return from_tiles(given, want);
+    }
+    if check::same(name, b"boxes_length") {
+        return boxes_length(given, want);
+    }
+    let BoxArg::Given(b) = box_at(given) else {
+        return false;
+    };
+    if given.len() == 5 {
+        return of_box(name, b, want);
+    }
+    if check::same(name, b"zoom_depth") {
+        return zoom_depth(b, given, want);
+    }
+    if check::same(name, b"contains_tile") {
+        return contains_tile(b, given, want);
+    }
+    false
+}
+
+fn from_tile(given: &[u64], want: &[u64]) -> bool {
+    if given.len() != 3 {
+        return false;
+    }
+    match args::tile_at(given, 0) {
+        TileArg::Given(t) => same_box(TileZBox::from_tile(t.x, t.y, t.z), want),
+        TileArg::Bad => false,
+    }
+}
+
+fn from_tiles(given: &[u64], want: &[u64]) -> bool {
+    if given.len() == 0 {
+        return false;
+    }
+    let n = given.len() - 1;
+    if given[0] != n as u64 {
+        return false;
+    }
+    same_box(TileZBox::from_tiles(parts::numbers(given, 1, n)), want)
+}
+
+// The count of the boxes, then five numbers of each.
+fn boxes_length(given: &[u64], want: &[u64]) -> bool {
+    if given.len() == 0 {
+        return false;
+    }
+    let n = given.len() - 1;
+    if n > 256 {
+        return false;
+    }
+    if n % 5 != 0 || given[0] != (n / 5) as u64 {
+        return false;
+    }
+    let mut room = [0u32; 256];
+    let mut i = 0;
+    while i < n {
+        let U32Arg::Given(number) = args::u32_at(given, i + 1) else {
+            return false;
+        };
+        room[i] = number;
+        i += 1;
+    }
+    answers::same_u64(tile_zbox::boxes_length(&room[..n]), want)
+}
+
+fn of_box(name: &[u8], b: TileZBox, want: &[u64]) -> bool {
+    if check::same(name, b"flipy") {
+        return same_box(b.flipy(), want);
+    }
+    if check::same(name, b"zoom_in") {
+        return same_box(b.zoom_in(), want);
+    }
+    if check::same(name, b"dimensions") {
+        return same_extent(b.dimensions(), want);
+    }
+    if check::same(name, b"dxdy") {
+        return same_extent(b.dxdy(), want);
+    }
+    if check::same(name, b"length") {
+        return answers::same_u64(b.length(), want);
+    }
+    if check::same(name, b"iter") {
+        return iter(b, want);
+    }
+    false
+}
+
+// The cursor is run to its end. The lists' boxes have fewer tiles than there are places.
+fn iter(b: TileZBox, want: &[u64]) -> bool {
+    let mut out = [BLANK as u64; 64];
+    let mut cursor = TileZBoxIterator::from(b);
+    let mut n = 0;
+    while n < 64 {
+        match cursor.next() {
+            NextAnswer::Given(t, rest) => {
+                out[n] = listed(t);
+                cursor = rest;
+            }
+            NextAnswer::End(_) => {
+                return answers::same_numbers(Count::Counted(n), &out, want);
+            }
+            NextAnswer::Refused(why) => {
+                return answers::refused(why, 1, want);
+            }
+        }
+        n += 1;
+    }
+    false
+}
+
+// The tile's number; `BLANK`, which is no tile's, off the map.
+fn listed(t: Tile) -> u64 {
+    match ids::to_id(t.x, t.y, t.z) {
+        U64Answer::Number(id) => id,
+        U64Answer::Refused(_) => BLANK as u64,
+    }
+}
+
+fn zoom_depth(b: TileZBox, given: &[u64], want: &[u64]) -> bool {
+    if given.len() != 6 {
+        return false;
+    }
+    match args::byte_at(given, 5) {
+        ByteArg::Given(depth) => same_box(b.zoom_depth(depth), want),
+        ByteArg::Bad => false,
+    }
+}
+
+fn contains_tile(b: TileZBox, given: &[u64], want: &[u64]) -> bool {
+    if given.len() != 8 {
+        return false;
+    }
+    let TileArg::Given(t) = args::tile_at(given, 5) else {
+        return false;
+    };
+    match b.contains_tile(t.x, t.y, t.z) {
+        BoolAnswer::Told(answer) => answers::same_bool(answer, want),
+        BoolAnswer::Refused(why) => answers::refused(why, 1, want),
+    }
+}
+
+fn same_box(answer: BoxAnswer, want: &[u64]) -> bool {
+    match answer {
+        BoxAnswer::Found(b) => answers::accepted(
+            &[
+                b.zoom as u64,
+                b.minx as u64,
+                b.maxx as u64,
+                b.miny as u64,
+                b.maxy as u64,
+            ],
+            want,
+        ),
+        BoxAnswer::Refused(why) => answers::refused(why, 5, want),
+    }
+}
+
+fn same_extent(answer: ExtentAnswer, want: &[u64]) -> bool {
+    match answer {
+        ExtentAnswer::Found(e) => answers::accepted(&[e.across as u64, e.down as u64], want),
+        ExtentAnswer::Refused(why) => answers::refused(why, 2, want),
+    }
+}
+
+// The box that the arguments begin with, on the map or off it.
+fn box_at(given: &[u64]) -> BoxArg {
+    let ByteArg::Given(zoom) = args::byte_at(given, 0) else {
+        return BoxArg::Bad;
+    };
+    let U32Arg::Given(minx) = args::u32_at(given, 1) else {
+        return BoxArg::Bad;
+    };
+    let U32Arg::Given(maxx) = args::u32_at(given, 2) else {
+        return BoxArg::Bad;
+    };
+    let U32Arg::Given(miny) = args::u32_at(given, 3) else {
+        return BoxArg::Bad;
+    };
+    let U32Arg::Given(maxy) = args::u32_at(given, 4) else {
+        return BoxArg::Bad;
+    };
+    BoxArg::Given(TileZBox {
+        zoom,
+        minx,
+        maxx,
+        miny,
+        maxy,
+    })
+}

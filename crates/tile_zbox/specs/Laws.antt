@@ -1,0 +1,101 @@
+-- Laws of boxes: which are refused, and that their numbers fit.
+use mathlib.Core.Path.{_≡_, refl}
+use mathlib.Core.Bool.{Bool, true, false, _&&_, _||_}
+use Prim.Native.Nat.{ℕ, _+_, _-_, _*_, _/_, _%_, _^_, _≤_, _<_}
+use native.Mathlib.Nat.{mul-le-mul, mul-comm, mod-lt, div-lt-iff-lt-mul, lt-of-le-of-lt, lt-of-lt-of-le}
+use native.Mathlib.Omega.{arith}
+use lib.Arith.{digits-lt}
+use lib.Dec.{leb, ltb}
+use lib.Pow.{pow-pos, pow-mono, pow-add}
+use borrow.Author.Tests.{leb-false, ltb-false, lt-leb, le-ltb, lt-ltb}
+use Rattle.constants.specs.Limits.{maxZoom, maxZoom-small}
+use Rattle.errors.specs.Answer.{_when_, _else_}
+use Rattle.tile_zbox.specs.Box.{IsBox, wrongRun, wrongEdges, boxRefusal, columnsOf, rowsOf, boxLength, zoomedIn, zoomedBy}
+use Rattle.tile_zbox.specs.declared.TileZBox.{TileZBox}
+
+-- two tests that both hold, and two of which neither does
+pub both : (a b : Bool) → (a && b) ≡ true → (a ≡ true) × (b ≡ true)
+both true b e = (refl, e)
+both false b e = let z : _≡_ {A = ℕ} 0 1 = cc in absurd (omega arith)
+
+pub neither : (a b : Bool) → (a || b) ≡ false → (a ≡ false) × (b ≡ false)
+neither true b e = let z : _≡_ {A = ℕ} 0 1 = cc in absurd (omega arith)
+neither false b e = (refl, e)
+
+-- a run of numbers below the end
+pub run-fine : {min max end : ℕ} → min ≤ max → max < end → wrongRun min max end ≡ false
+run-fine h k = rw (le-ltb _ _ h, lt-leb _ _ k)
+
+pub fine-run : (min max end : ℕ) → wrongRun min max end ≡ false → (min ≤ max) × (max < end)
+fine-run min max end e = let n = neither (ltb max min) (leb end max) e in (ltb-false _ _ (n .0), leb-false _ _ (n .1))
+
+pub box-too-deep : (b : TileZBox) → maxZoom < b .zoom → boxRefusal b ≡ 1
+unfolding boxRefusal
+box-too-deep b h = rw (lt-ltb _ _ h)
+
+pub edges-wrong : (b : TileZBox) → b .zoom ≤ maxZoom → wrongEdges b ≡ true → boxRefusal b ≡ 10
+unfolding boxRefusal
+edges-wrong b d e = rw (le-ltb _ _ d, e)
+
+pub edges-fine : (b : TileZBox) → b .zoom ≤ maxZoom → wrongEdges b ≡ false → IsBox b
+unfolding wrongEdges
+edges-fine b d e =
+    let n = neither (wrongRun (b .minx) (b .maxx) (2 ^ b .zoom)) (wrongRun (b .miny) (b .maxy) (2 ^ b .zoom)) e in
+    let x = fine-run _ _ _ (n .0) in
+    let y = fine-run _ _ _ (n .1) in
+    record { zoom = d; columns = x .0; east = x .1; rows = y .0; south = y .1 }
+
+pub fine-edges : {b : TileZBox} → IsBox b → wrongEdges b ≡ false
+unfolding wrongEdges
+fine-edges h = rw (run-fine (h .columns) (h .east), run-fine (h .rows) (h .south))
+
+-- exactly the boxes are not refused
+pub box-accepted : {b : TileZBox} → IsBox b → boxRefusal b ≡ 0
+unfolding boxRefusal
+box-accepted h = rw (le-ltb _ _ (h .zoom), fine-edges h)
+
+pub accepted-box : (b : TileZBox) → boxRefusal b ≡ 0 → IsBox b
+unfolding boxRefusal
+accepted-box b e = pick (ltb maxZoom (b .zoom)) refl (wrongEdges b) refl e
+  where
+    pick : (p : Bool) → ltb maxZoom (b .zoom) ≡ p → (q : Bool) → wrongEdges b ≡ q → (1 when p else 10 when q) ≡ 0 → IsBox b
+    pick true f q g e = absurd (omega arith)
+    pick false f true g e = absurd (omega arith)
+    pick false f false g e = edges-fine b (ltb-false _ _ f) g
+
+-- how many columns and rows a zoom can have, and a box
+pub side-small : (z : ℕ) → z ≤ maxZoom → 2 ^ z ≤ 2 ^ 30
+side-small z h = pow-mono {j = 30} (omega (arith, maxZoom-small))
+
+pub columns-fit : {b : TileZBox} → IsBox b → columnsOf b ≤ 2 ^ b .zoom
+columns-fit h = omega (arith, h .columns, h .east)
+
+pub rows-fit : {b : TileZBox} → IsBox b → rowsOf b ≤ 2 ^ b .zoom
+rows-fit h = omega (arith, h .rows, h .south)
+
+-- no box has more tiles than its zoom, and so none has 2 ^ 61
+pub length-within : {b : TileZBox} → IsBox b → boxLength b ≤ 2 ^ b .zoom * 2 ^ b .zoom
+unfolding boxLength
+length-within h = mul-le-mul (columns-fit h) (rows-fit h)
+
+pub length-small : {b : TileZBox} → IsBox b → boxLength b < 2 ^ 61
+length-small {b} h = lt-of-le-of-lt (length-within h) (lt-of-le-of-lt (mul-le-mul (side-small (b .zoom) (h .zoom)) (side-small (b .zoom) (h .zoom))) (omega arith))
+
+-- d zooms deeper, a run of numbers below 2 ^ z is one below 2 ^ (z + d)
+pub scaled-below : {n : ℕ} (z d : ℕ) → n < 2 ^ z → n * 2 ^ d + (2 ^ d - 1) < 2 ^ (z + d)
+scaled-below z d h = rw (pow-add 2 z d) (digits-lt h (omega (arith, pow-pos d)))
+
+pub scaled-small : {n : ℕ} (z d : ℕ) → n < 2 ^ z → z + d ≤ maxZoom → n * 2 ^ d + (2 ^ d - 1) < 2 ^ 30
+scaled-small z d h l = lt-of-lt-of-le (scaled-below z d h) (side-small (z + d) l)
+
+pub zoomed-once : (b : TileZBox) → zoomedBy b 1 ≡ zoomedIn b
+unfolding zoomedBy zoomedIn
+zoomed-once b = refl
+
+-- the column and the row of a tile's number are within the box
+pub column-below : (b : TileZBox) (k : ℕ) → k % columnsOf b < columnsOf b
+column-below b k = mod-lt k (omega arith)
+
+pub row-below : (b : TileZBox) (k : ℕ) → k < boxLength b → k / columnsOf b < rowsOf b
+unfolding boxLength
+row-below b k h = let p : 0 < columnsOf b = omega arith in div-lt-iff-lt-mul p .1 (rw (mul-comm (rowsOf b) (columnsOf b)) h)

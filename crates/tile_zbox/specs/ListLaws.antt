@@ -1,0 +1,283 @@
+-- Laws of the lists that boxes are made of: entries one by one, and boxes five numbers by five numbers.
+use mathlib.Core.Path.{_≡_, refl, sym, ap, _∙_}
+use mathlib.Core.Bool.{Bool, true, false, not, _||_}
+use mathlib.Core.List.{List, [], _∷_, _++_, map, map-append, append-assoc}
+use Prim.Native.Nat.{ℕ, zero, suc, _+_, _-_, _*_, _/_, _%_, _^_, _≤_, _<_, min, max}
+use native.Mathlib.Nat.{mul-le-mul, mul-le-mul-right, add-zero, max-zero}
+use native.Mathlib.Numerals.{add-one}
+use native.Mathlib.Omega.{arith}
+use lib.Dec.{ltb, eqb}
+use lib.ListN.{length, take, drop, getD, set, drop-of-length-le, length-map, length-drop, length-append}
+use lib.Pow.{pow-mono}
+use lib.Seq.{drop-cons, drop-drop, getD-drop, take-suc, take-add, take-at, drop-at, sets, sets-eq, length-take-le}
+use borrow.Author.Tests.{ltb-false, lt-ltb, le-ltb, eqb-true, eqb-false, eq-eqb, ne-eqb}
+use Rattle.constants.specs.Limits.{maxZoom, maxEntries, maxBoxes}
+use Rattle.errors.specs.Answer.{_when_, _else_}
+use Rattle.errors.specs.Memory.{front}
+use Rattle.ids.specs.Entry.{entryTile, entryRefusal}
+use Rattle.tile_zbox.specs.Around.{isEntry, ofZoom, allOf, firstZoom, listRefusal, least, greatest, columnOf, rowOf, boxAround, grown}
+use Rattle.tile_zbox.specs.Box.{IsBox, boxAt, wrongEdges, boxLength, flipped}
+use Rattle.tile_zbox.specs.Boxes.{boxFrom, boxesFrom, boxesOf, anyOf, deep, boxesRefusal, sumLengths, numbers, numbersOf, flippedNumbers}
+use Rattle.tile_zbox.specs.Laws.{both, neither, edges-fine, length-within}
+use Rattle.tile_zbox.specs.declared.TileZBox.{TileZBox}
+
+-- whether all entries from place i on are so, one entry on
+pub all-here : (p : ℕ → Bool) (l : List ℕ) (i : ℕ) → i < length l → p (getD l i 0) ≡ true → allOf p (drop i l) ≡ allOf p (drop (i + 1) l)
+unfolding allOf
+all-here p l i h e = rw (add-one i, drop-cons l i 0 h, e)
+
+pub all-bad : (p : ℕ → Bool) (l : List ℕ) (i : ℕ) → i < length l → p (getD l i 0) ≡ false → allOf p (drop i l) ≡ false
+unfolding allOf
+all-bad p l i h e = rw (drop-cons l i 0 h, e)
+
+pub all-past : (p : ℕ → Bool) (l : List ℕ) (i : ℕ) → length l ≤ i → allOf p (drop i l) ≡ true
+unfolding allOf
+all-past p l i h = rw (drop-of-length-le l h)
+
+pub all-at : (p : ℕ → Bool) (l : List ℕ) (i : ℕ) → allOf p l ≡ true → i < length l → p (getD l i 0) ≡ true
+unfolding allOf
+all-at p [] i e h = absurd (omega arith)
+all-at p (n ∷ ns) zero e h = both (p n) (allOf p ns) e .0
+all-at p (n ∷ ns) (suc i) e h = all-at p ns i (both (p n) (allOf p ns) e .1) (omega arith)
+
+pub entry-at : (l : List ℕ) (i : ℕ) → allOf isEntry l ≡ true → i < length l → entryRefusal (getD l i 0) ≡ 0
+entry-at l i e h = eqb-true _ _ (all-at isEntry l i e h)
+
+-- the refusals of a list, each where the tests before it find nothing
+pub list-long : (l : List ℕ) → maxEntries < length l → listRefusal l ≡ 6
+unfolding listRefusal
+list-long l h = rw (lt-ltb _ _ h)
+
+pub list-stranger : (l : List ℕ) → length l ≤ maxEntries → allOf isEntry l ≡ false → listRefusal l ≡ 7
+unfolding listRefusal
+list-stranger l h e = rw (le-ltb _ _ h, e)
+
+pub list-empty : (l : List ℕ) → length l ≤ maxEntries → allOf isEntry l ≡ true → length l ≡ 0 → listRefusal l ≡ 8
+unfolding listRefusal
+list-empty l h e f = rw (le-ltb _ _ h, e, eq-eqb _ _ f)
+
+pub list-mixed : (l : List ℕ) → length l ≤ maxEntries → allOf isEntry l ≡ true → (length l ≡ 0 → ⊥) → allOf (ofZoom (firstZoom l)) l ≡ false → listRefusal l ≡ 9
+unfolding listRefusal
+list-mixed l h e f g = rw (le-ltb _ _ h, e, ne-eqb _ _ f, g)
+
+-- what is known of a list that is not refused
+pub record OneZoom (l : List ℕ) : Type 0 where
+  pub few : length l ≤ maxEntries
+  pub entries : allOf isEntry l ≡ true
+  pub some : 0 < length l
+  pub zooms : allOf (ofZoom (firstZoom l)) l ≡ true
+
+pub one-zoom-accepted : {l : List ℕ} → OneZoom l → listRefusal l ≡ 0
+unfolding listRefusal
+one-zoom-accepted {l} k = let f : length l ≡ 0 → ⊥ = λ z. omega (arith, k .some) in rw (le-ltb _ _ (k .few), k .entries, ne-eqb _ _ f, k .zooms)
+
+pub accepted-one-zoom : (l : List ℕ) → listRefusal l ≡ 0 → OneZoom l
+unfolding listRefusal
+accepted-one-zoom l e = pick (ltb maxEntries (length l)) refl (allOf isEntry l) refl (eqb (length l) 0) refl (allOf (ofZoom (firstZoom l)) l) refl e
+  where
+    pick : (a : Bool) → ltb maxEntries (length l) ≡ a → (b : Bool) → allOf isEntry l ≡ b → (c : Bool) → eqb (length l) 0 ≡ c → (d : Bool) → allOf (ofZoom (firstZoom l)) l ≡ d
+        → (6 when a else 7 when not b else 8 when c else 9 when not d) ≡ 0 → OneZoom l
+    pick true p b q c r d s e = absurd (omega arith)
+    pick false p false q c r d s e = absurd (omega arith)
+    pick false p true q true r d s e = absurd (omega arith)
+    pick false p true q false r false s e = absurd (omega arith)
+    pick false p true q false r true s e = let f = eqb-false _ _ r in record { few = ltb-false _ _ p; entries = q; some = nonzero (length l) f; zooms = s }
+      where
+        nonzero : (n : ℕ) → (n ≡ 0 → ⊥) → 0 < n
+        nonzero zero f = absurd (f refl)
+        nonzero (suc n) f = omega arith
+
+-- the smallest and the greatest with one number more
+pub least-more : (n : ℕ) (ns : List ℕ) (m : ℕ) → least (n ∷ (ns ++ (m ∷ []))) ≡ min (least (n ∷ ns)) m
+unfolding least
+least-more n [] m = refl
+least-more n (k ∷ ks) m = rw (least-more k ks m) (omega arith)
+
+pub greatest-more : (ns : List ℕ) (m : ℕ) → greatest (ns ++ (m ∷ [])) ≡ max (greatest ns) m
+unfolding greatest
+greatest-more [] m = omega arith
+greatest-more (n ∷ ns) m = rw (greatest-more ns m) (omega arith)
+
+pub around-first : (l : List ℕ) → 0 < length l → boxAt (entryTile (getD l 0 0) .z) (entryTile (getD l 0 0) .x) (entryTile (getD l 0 0) .x) (entryTile (getD l 0 0) .y) (entryTile (getD l 0 0) .y) ≡ boxAround (take 1 l)
+unfolding boxAround least greatest
+around-first [] h = absurd (omega arith)
+around-first (n ∷ ns) h = rw (max-zero (entryTile n .x), max-zero (entryTile n .y))
+
+pub around-more : (l : List ℕ) (i : ℕ) → 0 < i → i < length l → grown (boxAround (take i l)) (entryTile (getD l i 0)) ≡ boxAround (take (i + 1) l)
+unfolding boxAround
+around-more [] i h k = absurd (omega arith)
+around-more (n ∷ ns) zero h k = absurd (omega arith)
+around-more (n ∷ ns) (suc i) h k =
+    let l : i < length ns = omega arith in
+    let m = getD ns i 0 in
+    rw (add-one (suc i), take-suc ns i 0 l, map-append columnOf (take i ns) (m ∷ []), map-append rowOf (take i ns) (m ∷ []), least-more (columnOf n) (map columnOf (take i ns)) (columnOf m), least-more (rowOf n) (map rowOf (take i ns)) (rowOf m), greatest-more (columnOf n ∷ map columnOf (take i ns)) (columnOf m), greatest-more (rowOf n ∷ map rowOf (take i ns)) (rowOf m))
+
+-- boxes five numbers by five numbers: the box at a place, as the code reads and writes it
+pub box-at : (l : List ℕ) (at : ℕ) → boxAt (getD l at 0) (getD l (at + 1) 0) (getD l (at + 2) 0) (getD l (at + 3) 0) (getD l (at + 4) 0) ≡ boxFrom (drop at l)
+box-at l at = rw (getD-drop at l 0 0, getD-drop at l 1 0, getD-drop at l 2 0, getD-drop at l 3 0, getD-drop at l 4 0, add-zero at)
+
+pub five-sets : (l : List ℕ) (at a b c d e : ℕ) → set (set (set (set (set l at a) (at + 1) b) (at + 2) c) (at + 3) d) (at + 4) e ≡ sets l at (a ∷ b ∷ c ∷ d ∷ e ∷ [])
+five-sets l at a b c d e =
+    let p : at + 1 ≡ suc at = omega arith in
+    let q : at + 2 ≡ suc (suc at) = omega arith in
+    let r : at + 3 ≡ suc (suc (suc at)) = omega arith in
+    let s : at + 4 ≡ suc (suc (suc (suc at))) = omega arith in
+    rw (p, q, r, s)
+
+pub boxes-step : (n at : ℕ) (l : List ℕ) → 0 < n → boxesFrom n (drop at l) ≡ boxFrom (drop at l) ∷ boxesFrom (n - 1) (drop (at + 5) l)
+unfolding boxesFrom
+boxes-step zero at l h = absurd (omega arith)
+boxes-step (suc n) at l h = let e : suc n - 1 ≡ n = omega arith in rw (e, drop-drop 5 at l)
+
+pub boxes-end : (n at : ℕ) (l : List ℕ) → n ≡ 0 → boxesFrom n (drop at l) ≡ []
+unfolding boxesFrom
+boxes-end n at l e = rw e
+
+pub boxes-count : (n : ℕ) (l : List ℕ) → length (boxesFrom n l) ≡ n
+unfolding boxesFrom
+boxes-count zero l = refl
+boxes-count (suc n) l = ap suc (boxes-count n (drop 5 l))
+
+pub any-here : (p : TileZBox → Bool) (b : TileZBox) (bs : List TileZBox) → p b ≡ true → anyOf p (b ∷ bs) ≡ true
+unfolding anyOf
+any-here p b bs e = rw e
+
+pub any-later : (p : TileZBox → Bool) (b : TileZBox) (bs : List TileZBox) → p b ≡ false → anyOf p (b ∷ bs) ≡ anyOf p bs
+unfolding anyOf
+any-later p b bs e = rw e
+
+pub any-none : (p : TileZBox → Bool) → anyOf p [] ≡ false
+unfolding anyOf
+any-none p = refl
+
+pub none-of : (p : TileZBox → Bool) (b : TileZBox) (bs : List TileZBox) → anyOf p (b ∷ bs) ≡ false → (p b ≡ false) × (anyOf p bs ≡ false)
+unfolding anyOf
+none-of p b bs e = neither (p b) (anyOf p bs) e
+
+-- boxes of the map, all of them
+pub record Fine (bs : List TileZBox) : Type 0 where
+  pub shallow : anyOf deep bs ≡ false
+  pub edges : anyOf wrongEdges bs ≡ false
+
+pub fine-first : (b : TileZBox) (bs : List TileZBox) → Fine (b ∷ bs) → IsBox b × Fine bs
+fine-first b bs f =
+    let p = none-of deep b bs (f .shallow) in
+    let q = none-of wrongEdges b bs (f .edges) in
+    (edges-fine b (ltb-false _ _ (p .0)) (q .0), record { shallow = p .1; edges = q .1 })
+
+-- the zoom of the next box, as the code reads it
+pub first-zoom : (l : List ℕ) (at : ℕ) → getD (drop at l) 0 0 ≡ getD l at 0
+first-zoom l at = getD-drop at l 0 0 ∙ rw (add-zero at)
+
+pub zoom-at : (n at : ℕ) (l : List ℕ) → 0 < n → anyOf deep (boxesFrom n (drop at l)) ≡ false → getD l at 0 ≤ maxZoom
+zoom-at n at l h e =
+    let p = none-of deep (boxFrom (drop at l)) (boxesFrom (n - 1) (drop (at + 5) l)) (rw (boxes-step n at l h) at e) in
+    let z : getD (drop at l) 0 0 ≤ maxZoom = ltb-false maxZoom (getD (drop at l) 0 0) (p .0) in
+    rw (first-zoom l at) at z
+
+-- the refusals of numbers that are boxes, each where the tests before it find nothing
+pub boxes-deep : (l : List ℕ) → anyOf deep (boxesOf l) ≡ true → boxesRefusal l ≡ 1
+unfolding boxesRefusal
+boxes-deep l e = rw e
+
+pub boxes-many : (l : List ℕ) → anyOf deep (boxesOf l) ≡ false → maxBoxes < length l / 5 → boxesRefusal l ≡ 6
+unfolding boxesRefusal
+boxes-many l e h = rw (e, lt-ltb _ _ h)
+
+pub boxes-over : (l : List ℕ) → anyOf deep (boxesOf l) ≡ false → length l / 5 ≤ maxBoxes → (length l % 5 ≡ 0 → ⊥) → boxesRefusal l ≡ 10
+unfolding boxesRefusal
+boxes-over l e h f = rw (e, le-ltb _ _ h, ne-eqb _ _ f)
+
+pub boxes-wrong : (l : List ℕ) → anyOf deep (boxesOf l) ≡ false → length l / 5 ≤ maxBoxes → length l % 5 ≡ 0 → anyOf wrongEdges (boxesOf l) ≡ true → boxesRefusal l ≡ 10
+unfolding boxesRefusal
+boxes-wrong l e h f g = rw (e, le-ltb _ _ h, eq-eqb _ _ f, g)
+
+pub record AllBoxes (l : List ℕ) : Type 0 where
+  pub fine : Fine (boxesOf l)
+  pub few : length l / 5 ≤ maxBoxes
+  pub whole : length l % 5 ≡ 0
+
+pub all-boxes-accepted : {l : List ℕ} → AllBoxes l → boxesRefusal l ≡ 0
+unfolding boxesRefusal
+all-boxes-accepted k = rw (k .fine .shallow, le-ltb _ _ (k .few), eq-eqb _ _ (k .whole), k .fine .edges)
+
+pub accepted-all-boxes : (l : List ℕ) → boxesRefusal l ≡ 0 → AllBoxes l
+unfolding boxesRefusal
+accepted-all-boxes l e = pick (anyOf deep (boxesOf l)) refl (ltb maxBoxes (length l / 5)) refl (eqb (length l % 5) 0) refl (anyOf wrongEdges (boxesOf l)) refl e
+  where
+    pick : (a : Bool) → anyOf deep (boxesOf l) ≡ a → (b : Bool) → ltb maxBoxes (length l / 5) ≡ b → (c : Bool) → eqb (length l % 5) 0 ≡ c → (d : Bool) → anyOf wrongEdges (boxesOf l) ≡ d
+        → (1 when a else 6 when b else 10 when (not c || d)) ≡ 0 → AllBoxes l
+    pick true p b q c r d s e = absurd (omega arith)
+    pick false p true q c r d s e = absurd (omega arith)
+    pick false p false q false r d s e = absurd (omega arith)
+    pick false p false q true r true s e = absurd (omega arith)
+    pick false p false q true r false s e = record { fine = record { shallow = p; edges = s }; few = ltb-false _ _ q; whole = eqb-true _ _ r }
+
+-- the sum of as many boxes as are taken fits 64 bits, whatever their zoom
+boxes-limit : maxBoxes * (2 ^ maxZoom * 2 ^ maxZoom) < 2 ^ 64
+unfolding maxBoxes maxZoom
+boxes-limit = omega arith
+
+pub sum-within : (bs : List TileZBox) → Fine bs → sumLengths bs ≤ length bs * (2 ^ maxZoom * 2 ^ maxZoom)
+unfolding sumLengths
+sum-within [] f = omega arith
+sum-within (b ∷ bs) f =
+    let k = fine-first b bs f in
+    let s : 2 ^ b .zoom ≤ 2 ^ maxZoom = pow-mono (k .0 .zoom) in
+    let m : 2 ^ b .zoom * 2 ^ b .zoom ≤ 2 ^ maxZoom * 2 ^ maxZoom = mul-le-mul s s in
+    let i = sum-within bs (k .1) in
+    omega (arith, length-within (k .0))
+
+pub sum-fits : (l : List ℕ) → boxesRefusal l ≡ 0 → sumLengths (boxesOf l) < 2 ^ 64
+sum-fits l e =
+    let k = accepted-all-boxes l e in
+    let w = rw (boxes-count (length l / 5) l) at (sum-within (boxesOf l) (k .fine)) in
+    let m : length l / 5 * (2 ^ maxZoom * 2 ^ maxZoom) ≤ maxBoxes * (2 ^ maxZoom * 2 ^ maxZoom) = mul-le-mul-right (2 ^ maxZoom * 2 ^ maxZoom) (k .few) in
+    omega (arith, boxes-limit)
+
+pub sum-step : (b : TileZBox) (bs : List TileZBox) → sumLengths (b ∷ bs) ≡ boxLength b + sumLengths bs
+unfolding sumLengths
+sum-step b bs = refl
+
+pub sum-none : sumLengths [] ≡ 0
+unfolding sumLengths
+sum-none = refl
+
+-- boxes as numbers
+pub numbers-step : (b : TileZBox) (bs : List TileZBox) → numbersOf (map flipped (b ∷ bs)) ≡ numbers (flipped b) ++ numbersOf (map flipped bs)
+unfolding numbersOf
+numbers-step b bs = refl
+
+pub numbers-length : (bs : List TileZBox) → length (numbersOf bs) ≡ length bs * 5
+unfolding numbersOf
+numbers-length [] = refl
+numbers-length (b ∷ bs) = omega (arith, numbers-length bs)
+
+pub flipped-length : (l : List ℕ) → length l % 5 ≡ 0 → length (flippedNumbers l) ≡ length l
+flipped-length l e = rw (numbers-length (map flipped (boxesOf l)), length-map (boxesOf l) flipped, boxes-count (length l / 5) l) (omega arith)
+
+-- a few numbers more at the front of the memory
+pub front-on : (items memory vs rest : List ℕ) (at : ℕ) → at ≤ length items → drop at items ≡ vs ++ rest → at + length vs ≤ length memory
+    → sets (front at items memory) at vs ≡ front (at + length vs) items memory
+front-on items memory vs rest at g e h =
+    let p : length (take at items) ≡ at = length-take-le at items g in
+    let k : at + length vs ≤ length (front at items memory) = rw (length-append, p, length-drop) (omega arith) in
+    let t : take at (front at items memory) ≡ take at items = take-at (take at items) (drop at memory) at p in
+    let d : drop (at + length vs) (front at items memory) ≡ drop (at + length vs) memory =
+    sym (drop-drop (length vs) at (front at items memory)) ∙ (ap (drop (length vs)) (drop-at (take at items) (drop at memory) at p) ∙ drop-drop (length vs) at memory) in
+    let n : take (at + length vs) items ≡ take at items ++ vs =
+    take-add at (length vs) items ∙ ap (λ (x : List ℕ). take at items ++ x) (ap (take (length vs)) e ∙ take-at vs rest (length vs) refl) in
+    sets-eq vs (front at items memory) at k ∙ rw (t, d, n, append-assoc)
+
+-- one box more of those that are flipped
+pub flip-on : (l memory : List ℕ) (n at : ℕ) → 0 < n → at + n * 5 ≡ length l → length l % 5 ≡ 0 → length l ≤ length memory
+    → drop at (flippedNumbers l) ≡ numbersOf (map flipped (boxesFrom n (drop at l)))
+    → (drop (at + 5) (flippedNumbers l) ≡ numbersOf (map flipped (boxesFrom (n - 1) (drop (at + 5) l))))
+    × (sets (front at (flippedNumbers l) memory) at (numbers (flipped (boxFrom (drop at l)))) ≡ front (at + 5) (flippedNumbers l) memory)
+flip-on l memory n at h f w m e =
+    let b = boxFrom (drop at l) in
+    let bs = boxesFrom (n - 1) (drop (at + 5) l) in
+    let s : drop at (flippedNumbers l) ≡ numbers (flipped b) ++ numbersOf (map flipped bs) =
+    e ∙ (ap (λ (x : List TileZBox). numbersOf (map flipped x)) (boxes-step n at l h) ∙ numbers-step b bs) in
+    let g = flipped-length l w in
+    (sym (drop-drop 5 at (flippedNumbers l)) ∙ ap (drop 5) s, front-on (flippedNumbers l) memory (numbers (flipped b)) (numbersOf (map flipped bs)) at (omega arith) s (omega arith))
