@@ -1,0 +1,115 @@
+-- What is proved of the zoom sets beyond each function's promise: sets and lists undo each other, the Rust computes what document 01 says,
+-- and the Rust's two turned readings do not undo each other. Zooms has the definitions, Rust the Rust's functions on values.
+use mathlib.Core.Path.{_≡_, refl, sym, _∙_}
+use mathlib.Core.Bool.{false, cond, _&&_, or-false}
+use mathlib.Core.List.{List, [], _∷_}
+use Prim.Native.Nat.{ℕ, suc, _+_, _-_, _^_, _≤_, _<_}
+use native.Mathlib.Omega.{arith}
+use lib.Dec.{eqb}
+use lib.ListN.{length, getD}
+use lib.Bits.{bitAnd}
+use Rattle.constants.specs.Limits.{maxEntries}
+use Rattle.zoom.specs.AsRust.{lowest, highest, mirror, zooms-as-rust, turned-zooms, set-as-rust, set-rev-as-rust, range-as-rust, runs-as-rust}
+use Rattle.zoom.specs.Bits.{hasBit, those, setOf, between}
+use Rattle.zoom.specs.Cover.{fromTo, spread, runs-cover}
+use Rattle.zoom.specs.Laws.{set-of-one, set-of-span, set-same, bit-and}
+use Rattle.zoom.specs.Listing.{those-rising, set-back, list-back, rev-lower}
+use Rattle.zoom.specs.Rust.{zset2zvec, zset2zvecRev, zvec2zset, zvec2zsetRev, zoomRanges}
+use Rattle.zoom.specs.Runs.{open-run, run-count}
+use Rattle.zoom.specs.Zooms.{lastZoom, turnBit, zoomsOf, zoomsOfRev, listed, anyDeeper, setOfZooms, setOfZoomsRev, zvecSet, firstRun, lastRun, inRun, runStarts, runEnds, runLows, runHighs}
+
+-- ---- there and back
+
+-- the set of the zooms of a set is the set, where bit 31 does not turn it round
+pub set-of-zooms-of-set : (zset : ℕ) → zset < 2 ^ 31 → setOfZooms (zoomsOf zset) ≡ zset
+set-of-zooms-of-set zset h = set-back zset h
+
+-- a zoom is in the zooms of a list's set exactly if it is in the list
+pub zooms-of-set-of-zooms : (zooms : List ℕ) → anyDeeper zooms ≡ false → (z : ℕ) → listed (zoomsOf (setOfZooms zooms)) z ≡ listed zooms z
+zooms-of-set-of-zooms zooms e z = list-back zooms e z
+
+-- the zooms of a set rise strictly
+pub zooms-rise : (zset j k : ℕ) → j < k → k < length (zoomsOf zset) → getD (zoomsOf zset) j 0 < getD (zoomsOf zset) k 0
+zooms-rise zset j k i h = those-rising _ (suc lastZoom) j k i h
+
+-- ---- the Rust
+
+-- it calls itself once at most: two calls or more give the same
+pub rust-zset2zvec : (calls zset : ℕ) → zset2zvec (suc (suc calls)) zset ≡ zoomsOf zset
+rust-zset2zvec calls zset = zooms-as-rust calls zset
+
+-- zoom i is bit 30 - i, and bit 31 is not looked at
+pub rust-zset2zvec-rev : (calls zset : ℕ) → zset2zvecRev (suc calls) zset ≡ zoomsOfRev zset
+rust-zset2zvec-rev calls zset = turned-zooms calls zset
+
+pub rust-zvec2zset : (zooms : List ℕ) → anyDeeper zooms ≡ false → zvec2zset zooms ≡ setOfZooms zooms
+rust-zvec2zset zooms e = set-as-rust zooms e
+
+pub rust-zvec2zset-rev : (zooms : List ℕ) → anyDeeper zooms ≡ false → zvec2zsetRev zooms ≡ setOfZoomsRev zooms
+rust-zvec2zset-rev zooms e = set-rev-as-rust zooms e
+
+-- the set of a range is the set of the list from its lowest to its highest zoom
+pub rust-zoom-set : (low high : ℕ) → high ≤ lastZoom → zvec2zset (fromTo low high) ≡ setOf (between low high) (suc lastZoom)
+rust-zoom-set low high h = range-as-rust low high h
+
+-- the loop's ranges are the runs, in their order
+pub rust-zoom-ranges : (zset : ℕ) → (lowest (zoomRanges zset) ≡ runLows zset) × (highest (zoomRanges zset) ≡ runHighs zset)
+rust-zoom-ranges zset = runs-as-rust zset
+
+-- ---- the turned readings do not undo each other
+
+-- the smallest list and the smallest set that do not come back, after those that do
+pub rev-not-undone : (zoomsOfRev (setOfZoomsRev []) ≡ []) × ((setOfZoomsRev (zoomsOfRev 0) ≡ 0)
+    × ((zoomsOfRev (setOfZoomsRev (0 ∷ [])) ≡ []) × (setOfZoomsRev (zoomsOfRev 1) ≡ 2)))
+unfolding hasBit those setOf listed
+rev-not-undone = (refl, (refl, (refl, refl)))
+
+-- every zoom comes back one lower, and zoom 0 not at all
+pub rev-one-lower : (zooms : List ℕ) → anyDeeper zooms ≡ false → (z : ℕ) → z ≤ 30 → listed (zoomsOfRev (setOfZoomsRev zooms)) z ≡ listed zooms (suc z)
+rev-one-lower zooms e z h = rev-lower zooms e z h
+
+-- the bit that `and_zoom` looks for is not the zoom's own: the set of zoom 0 and zoom 0 have nothing in common
+pub and-zoom-misses : bitAnd (2 ^ 0) (2 ^ (31 - 0)) ≡ 0
+and-zoom-misses = refl
+
+-- ---- sets
+
+-- a bit is in what two sets have in common exactly if it is in both
+pub and-bit-by-bit : (a b i : ℕ) → hasBit (bitAnd a b) i ≡ hasBit a i && hasBit b i
+and-bit-by-bit a b i = bit-and a b i
+
+-- all zooms are those of the whole range
+pub all-zooms : 2 ^ suc lastZoom - 1 ≡ setOf (between 0 lastZoom) (suc lastZoom)
+all-zooms = omega (arith, set-of-span 0 lastZoom (suc lastZoom) (omega arith) (omega arith))
+
+-- a single zoom's number is that of the list of it
+pub one-zoom : (z : ℕ) → z ≤ lastZoom → setOfZooms (z ∷ []) ≡ 2 ^ z
+unfolding listed
+one-zoom z h = set-same (listed (z ∷ [])) (λ i. eqb i z) (suc lastZoom) (λ i l. or-false (eqb i z)) ∙ set-of-one z (suc lastZoom) (omega arith)
+
+pub one-zoom-rev : (z : ℕ) → z ≤ lastZoom → setOfZoomsRev (z ∷ []) ≡ 2 ^ (turnBit - z)
+unfolding listed
+one-zoom-rev z h =
+    set-same (λ i. listed (z ∷ []) (turnBit - i)) (λ i. eqb i (turnBit - z)) (suc turnBit) (λ i l. or-false (eqb (turnBit - i) z) ∙ sym (mirror i z (omega arith) (omega arith)))
+    ∙ set-of-one (turnBit - z) (suc turnBit) (omega arith)
+
+-- ---- runs
+
+-- the runs, each from its lowest to its highest zoom, one after the other, are the zooms of the set that runs are made of
+pub runs-hold-the-zooms : (zset : ℕ) → spread (runLows zset) (runHighs zset) ≡ those (inRun zset) (suc lastZoom)
+runs-hold-the-zooms zset = runs-cover zset
+
+-- a zoom is in a run exactly if one run more starts up to it than ends before it
+pub runs-start-and-end : (zset n : ℕ) → length (those (runStarts zset) (suc n)) ≡ length (those (runEnds zset) n) + cond (inRun zset n) 1 0
+runs-start-and-end zset n = open-run zset n
+
+pub as-many-lows-as-highs : (zset : ℕ) → length (runLows zset) ≡ length (runHighs zset)
+as-many-lows-as-highs zset = run-count zset
+
+-- ---- the plates of document 01
+
+pub plates : (zvecSet (0 ∷ 5 ∷ []) ≡ record { number = 0; value = 33 })
+    × ((zoomsOf (2 ^ 31 + 2 ^ 30) ≡ 0 ∷ [])
+    × ((runLows (setOfZooms (0 ∷ 1 ∷ 2 ∷ 4 ∷ [])) ≡ 1 ∷ 4 ∷ []) × (runHighs (setOfZooms (0 ∷ 1 ∷ 2 ∷ 4 ∷ [])) ≡ 2 ∷ 4 ∷ [])))
+unfolding hasBit those setOf listed anyDeeper maxEntries firstRun lastRun inRun runStarts runEnds
+plates = (refl, (refl, (refl, refl)))
