@@ -1,0 +1,212 @@
+// Prints the plates of document 01 and the Bing page's examples of parents, each worked out by the library.
+use errors::Count;
+use errors::U32Answer;
+use errors::U64Answer;
+use libc::STDOUT_FILENO;
+use tile::OptionU8;
+use tile::Tile;
+use tile::TileAnswer;
+use tile_zbox::BoxAnswer;
+use tile_zbox::TileZBox;
+
+fn main() {
+    key_and_numbers(b"(3,5,3)", 3, 5, 3);
+    key_and_numbers(b"root", 0, 0, 0);
+    ancestors();
+    beside();
+    family(b"2");
+    family(b"13");
+    all_of_zoom(16);
+    zooms();
+    key_lengths();
+}
+
+fn key_and_numbers(name: &[u8], x: u32, y: u32, z: u8) {
+    say(name);
+    say(b": key ");
+    say_key(x, y, z);
+    say(b", id ");
+    say_u64(ids::to_id(x, y, z));
+    say(b", rmid ");
+    say_u64(ids::xyz2rmid(x, y, z));
+    say(b"\n");
+}
+
+fn ancestors() {
+    say(b"parent of (3,5,3): ");
+    say_tile(fns::parent(3, 5, 3, OptionU8::None));
+    say(b"; n = 2: ");
+    say_tile(fns::parent(3, 5, 3, OptionU8::Some(2)));
+    say(b"; n = 3: ");
+    say_tile(fns::parent(3, 5, 3, OptionU8::Some(3)));
+    say(b"\n");
+}
+
+fn beside() {
+    let mut list = [0u64; 8];
+    say(b"siblings of (3,5,3):");
+    let n = written(neighbors::siblings(3, 5, 3, &mut list));
+    say_entries(&list, n);
+    say(b"\nneighbours of (3,0,2):");
+    let m = written(neighbors::neighbors(3, 0, 2, &mut list));
+    say_entries(&list, m);
+    say(b"\n");
+}
+
+// The keys of a tile's children, from the tile's key.
+fn family(key: &[u8]) {
+    say(key);
+    say(b" is the parent of");
+    let mut list = [0u64; 4];
+    if let TileAnswer::Found(t) = quadkey::quadkey2xyz(key) {
+        children::children1_zorder(t.x, t.y, t.z, &mut list);
+    }
+    say_entry_key(list[0]);
+    say_entry_key(list[1]);
+    say_entry_key(list[2]);
+    say_entry_key(list[3]);
+    say(b"\n");
+}
+
+fn all_of_zoom(z: u8) {
+    say(b"box of all zoom ");
+    say_number(z as u64);
+    say(b": ");
+    if let BoxAnswer::Found(root) = TileZBox::from_tile(0, 0, 0) {
+        say_length(root.zoom_depth(z));
+    }
+    say(b"\n");
+}
+
+fn zooms() {
+    say(b"zooms 0, 5: set ");
+    say_u32(zoom::zvec2zset(&[0, 5]));
+    say(b"\nset with bits 31 and 30: zoom");
+    let mut list = [0u8; 31];
+    let n = written(zoom::zset2zvec(0xc000_0000, &mut list));
+    say_bytes(&list, n);
+    say(b"\nzooms 0, 1, 2, 4: ranges from");
+    let mut lows = [0u8; 16];
+    let mut highs = [0u8; 16];
+    let k = written(zoom::zoom_ranges(23, &mut lows, &mut highs));
+    say_bytes(&lows, k);
+    say(b" to");
+    say_bytes(&highs, k);
+    say(b"\n");
+}
+
+fn key_lengths() {
+    let key = [b'0'; 30];
+    say(b"29 digits: ");
+    say_tile(quadkey::quadkey2xyz(&key[..29]));
+    say(b"; 30: ");
+    say_tile(quadkey::quadkey2xyz(&key));
+    say(b"\n");
+}
+
+fn written(answer: Count) -> usize {
+    match answer {
+        Count::Counted(n) => n,
+        Count::Refused(_) => 0,
+    }
+}
+
+fn say(text: &[u8]) {
+    io::write_all(STDOUT_FILENO, text);
+}
+
+// The first n bytes, as they are.
+fn say_front(text: &[u8], n: usize) {
+    if n <= text.len() {
+        say(&text[..n]);
+    }
+}
+
+fn say_number(n: u64) {
+    io::print_decimal(STDOUT_FILENO, n);
+}
+
+fn say_refusal(why: errors::Refusal) {
+    say(b"refusal ");
+    say_number(errors::number(why) as u64);
+}
+
+fn say_u64(answer: U64Answer) {
+    match answer {
+        U64Answer::Number(n) => say_number(n),
+        U64Answer::Refused(why) => say_refusal(why),
+    }
+}
+
+fn say_u32(answer: U32Answer) {
+    match answer {
+        U32Answer::Number(n) => say_number(n as u64),
+        U32Answer::Refused(why) => say_refusal(why),
+    }
+}
+
+fn say_length(answer: BoxAnswer) {
+    match answer {
+        BoxAnswer::Found(b) => say_u64(b.length()),
+        BoxAnswer::Refused(why) => say_refusal(why),
+    }
+}
+
+fn say_key(x: u32, y: u32, z: u8) {
+    let mut key = [0u8; 29];
+    let n = written(quadkey::xyz2quadkey(x, y, z, &mut key));
+    say_front(&key, n);
+}
+
+fn say_entry_key(entry: u64) {
+    say(b" ");
+    match ids::entry_tile(entry) {
+        TileAnswer::Found(t) => say_key(t.x, t.y, t.z),
+        TileAnswer::Refused(why) => say_refusal(why),
+    }
+}
+
+fn say_tile(answer: TileAnswer) {
+    match answer {
+        TileAnswer::Found(t) => say_place(t),
+        TileAnswer::Refused(why) => say_refusal(why),
+    }
+}
+
+fn say_place(t: Tile) {
+    say(b"(");
+    say_number(t.x as u64);
+    say(b",");
+    say_number(t.y as u64);
+    say(b",");
+    say_number(t.z as u64);
+    say(b")");
+}
+
+// The first n entries, as tiles.
+fn say_entries(list: &[u64], n: usize) {
+    let mut i = 0;
+    while i < n && i < list.len() {
+        say_entry(list[i]);
+        i += 1;
+    }
+}
+
+fn say_entry(entry: u64) {
+    say(b" ");
+    say_tile(ids::entry_tile(entry));
+}
+
+// The first n numbers.
+fn say_bytes(list: &[u8], n: usize) {
+    let mut i = 0;
+    while i < n && i < list.len() {
+        say_byte(list[i]);
+        i += 1;
+    }
+}
+
+fn say_byte(b: u8) {
+    say(b" ");
+    say_number(b as u64);
+}
