@@ -39,7 +39,7 @@ impl BBox {
     pub fn is_antimeridian(self) -> bool
         ensures { λ r. ⌜ r ≡ crosses self ⌝ }
     {
-        self.west > self.east
+        self.crosses_antimeridian()
     }
 
     pub fn crosses_antimeridian(self) -> bool

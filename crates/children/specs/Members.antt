@@ -5,7 +5,7 @@ use mathlib.Core.HLevel.{⊥-prop}
 use mathlib.Core.List.{List, [], _∷_, _++_, map, append-assoc, flatMap}
 use mathlib.Core.List.{List·Memᴰ, List·Memᴰ·head, List·Memᴰ·tail, List·Memᴰ·not-nil, List·Memᴰ·cases-cons, List·Memᴰ·append-cases}
 use mathlib.Core.List.{Memᴰ·append-left, Memᴰ·append-right, Memᴰ·cast}
-use mathlib.Core.List.{List·Nodup, Pairwise·nil, nodup-cons}
+use mathlib.Core.List.{List·Mem, List·Nodup, Pairwise·nil, nodup-cons, nodup-append}
 use Prim.Native.Nat.{ℕ, zero, suc, _+_, _*_, _<_}
 use native.Mathlib.Omega.{arith}
 use lib.ListN.{length, take, drop, getD}
@@ -34,34 +34,25 @@ into-gather {a = a} f q (r ∷ qs) m k = pick (List·Memᴰ·cases-cons m) (λ i
     pick (inl e) g = Memᴰ·append-left (gather f qs) (rw e at k)
     pick (inr i) g = Memᴰ·append-right (f r) (g i)
 
--- a list in which nothing is twice
-pub data Once {A : Type 0} : List A → Type 0 where
-  none : Once []
-  more : {a : A} {l : List A} → (List·Memᴰ a l → ⊥) → Once l → Once (a ∷ l)
+-- a list in which nothing is twice, one entry longer and one shorter
+pub once-more : {A : Type 0} {a : A} {l : List A} → (List·Memᴰ a l → ⊥) → List·Nodup l → List·Nodup (a ∷ l)
+once-more n o = nodup-cons .1 (λ m. ∥∥₁-elim m ⊥-prop n, o)
 
--- the library's word for it
-pub once-nodup : {A : Type 0} {l : List A} → Once l → List·Nodup l
-once-nodup none = Pairwise·nil
-once-nodup (more n o) = nodup-cons .1 (λ m. ∥∥₁-elim m ⊥-prop n, once-nodup o)
+once-rest : {A : Type 0} {a : A} {l : List A} → List·Nodup (a ∷ l) → (List·Memᴰ a l → ⊥) × List·Nodup l
+once-rest o = (λ m. nodup-cons .0 o .0 ∣ m ∣₁, nodup-cons .0 o .1)
 
-pub once-append : {A : Type 0} {a b : List A} → Once a → Once b → ((t : A) → List·Memᴰ t a → List·Memᴰ t b → ⊥) → Once (a ++ b)
-once-append none o h = o
-once-append {A} {b = b} (more {a = t} {l = a} n p) o h = more both (once-append p o (λ u k m. h u (List·Memᴰ·tail k) m))
-  where
-    both : List·Memᴰ t (a ++ b) → ⊥
-    both m = pick (List·Memᴰ·append-cases a m)
-      where
-        pick : List·Memᴰ t a ⊎ List·Memᴰ t b → ⊥
-        pick (inl k) = n k
-        pick (inr k) = h t (List·Memᴰ·head refl) k
-
-pub once-gather : {A : Type 0} (f : ℕ → List A) {qs : List ℕ} → Once qs → ((q : ℕ) → Once (f q))
-    → ((t : A) (q r : ℕ) → List·Memᴰ q qs → List·Memᴰ r qs → List·Memᴰ t (f q) → List·Memᴰ t (f r) → q ≡ r) → Once (gather f qs)
+pub once-gather : {A : Type 0} (f : ℕ → List A) (qs : List ℕ) → List·Nodup qs → ((q : ℕ) → List·Nodup (f q))
+    → ((t : A) (q r : ℕ) → List·Memᴰ q qs → List·Memᴰ r qs → List·Memᴰ t (f q) → List·Memᴰ t (f r) → q ≡ r) → List·Nodup (gather f qs)
 unfolding gather
-once-gather f none each apart = none
-once-gather {A} f (more {a = q} {l = qs} n o) each apart =
-    once-append (each q) (once-gather f o each (λ t a b k m. apart t a b (List·Memᴰ·tail k) (List·Memᴰ·tail m)))
-    (λ t k m. let s = in-gather f qs m in n (Memᴰ·cast (apart t q (s .0) (List·Memᴰ·head refl) (List·Memᴰ·tail (s .1)) k (s .2)) (s .1)))
+once-gather f [] o each apart = Pairwise·nil
+once-gather {A} f (q ∷ qs) o each apart =
+    nodup-append .1 (each q, once-gather f qs (once-rest o .1) each (λ t a b k m. apart t a b (List·Memᴰ·tail k) (List·Memᴰ·tail m)), two)
+  where
+    two : (t : A) → List·Mem t (f q) → List·Mem t (gather f qs) → ⊥
+    two t a b =
+        ∥∥₁-elim a ⊥-prop (λ (i : List·Memᴰ t (f q)). ∥∥₁-elim b ⊥-prop (λ (j : List·Memᴰ t (gather f qs)).
+        let s = in-gather f qs j in
+        once-rest o .0 (Memᴰ·cast (apart t q (s .0) (List·Memᴰ·head refl) (List·Memᴰ·tail (s .1)) i (s .2)) (s .1))))
 
 pub getD-in : {A : Type 0} (l : List A) (i : ℕ) (d : A) → i < length l → List·Memᴰ (getD l i d) l
 getD-in [] i d h = absurd (omega arith)
@@ -69,12 +60,12 @@ getD-in (a ∷ l) zero d h = List·Memᴰ·head refl
 getD-in (a ∷ l) (suc i) d h = List·Memᴰ·tail (getD-in l i d (omega arith))
 
 -- the same entry at two places: it is one place
-pub once-at : {A : Type 0} {l : List A} → Once l → (i j : ℕ) (d : A) → i < length l → j < length l → getD l i d ≡ getD l j d → i ≡ j
-once-at none i j d h k e = absurd (omega arith)
-once-at (more n o) zero zero d h k e = refl
-once-at (more {l = l} n o) zero (suc j) d h k e = absurd (n (Memᴰ·cast e (getD-in l j d (omega arith))))
-once-at (more {l = l} n o) (suc i) zero d h k e = absurd (n (Memᴰ·cast (sym e) (getD-in l i d (omega arith))))
-once-at (more n o) (suc i) (suc j) d h k e = ap suc (once-at o i j d (omega arith) (omega arith) e)
+pub once-at : {A : Type 0} (l : List A) → List·Nodup l → (i j : ℕ) (d : A) → i < length l → j < length l → getD l i d ≡ getD l j d → i ≡ j
+once-at [] o i j d h k e = absurd (omega arith)
+once-at (a ∷ l) o zero zero d h k e = refl
+once-at (a ∷ l) o zero (suc j) d h k e = absurd (once-rest o .0 (Memᴰ·cast e (getD-in l j d (omega arith))))
+once-at (a ∷ l) o (suc i) zero d h k e = absurd (once-rest o .0 (Memᴰ·cast (sym e) (getD-in l i d (omega arith))))
+once-at (a ∷ l) o (suc i) (suc j) d h k e = ap suc (once-at l (once-rest o .1) i j d (omega arith) (omega arith) e)
 
 pub in-map : {A B : Type 0} (f : A → B) {b : B} (l : List A) → List·Memᴰ b (map f l) → (a : A) × List·Memᴰ a l × (b ≡ f a)
 in-map f [] m = absurd (List·Memᴰ·not-nil m)
@@ -86,12 +77,12 @@ in-map {A} f {b} (t ∷ l) m = pick (List·Memᴰ·cases-cons m) (in-map f l)
     pick (inr k) g = let s = g k in (s .0, List·Memᴰ·tail (s .1), s .2)
 
 -- what tells the members of a list apart leaves each of them once
-pub once-map : {A B : Type 0} (f : A → B) {l : List A} → Once l → ((a b : A) → List·Memᴰ a l → List·Memᴰ b l → f a ≡ f b → a ≡ b)
-    → Once (map f l)
-once-map f none apart = none
-once-map f (more {a = a} {l = l} n o) apart =
-    more (λ m. let s = in-map f l m in n (Memᴰ·cast (apart a (s .0) (List·Memᴰ·head refl) (List·Memᴰ·tail (s .1)) (s .2)) (s .1)))
-    (once-map f o (λ b c k m. apart b c (List·Memᴰ·tail k) (List·Memᴰ·tail m)))
+pub once-map : {A B : Type 0} (f : A → B) (l : List A) → List·Nodup l → ((a b : A) → List·Memᴰ a l → List·Memᴰ b l → f a ≡ f b → a ≡ b)
+    → List·Nodup (map f l)
+once-map f [] o apart = Pairwise·nil
+once-map f (a ∷ l) o apart =
+    once-more (λ m. let s = in-map f l m in once-rest o .0 (Memᴰ·cast (apart a (s .0) (List·Memᴰ·head refl) (List·Memᴰ·tail (s .1)) (s .2)) (s .1)))
+    (once-map f l (once-rest o .1) (λ b c k m. apart b c (List·Memᴰ·tail k) (List·Memᴰ·tail m)))
 
 -- flattened, in one or in several lists
 pub flat-append : {A B : Type 0} (f : A → List B) (a b : List A) → flatMap f (a ++ b) ≡ flatMap f a ++ flatMap f b

@@ -77,7 +77,7 @@ the-descendants family f d x y z t =
 pub each-descendant-once : (family : List ℕ) → IsFamily family → (d x y z i j : ℕ) (none : Tile)
     → i < length (descendants family d x y z) → j < length (descendants family d x y z)
     → getD (descendants family d x y z) i none ≡ getD (descendants family d x y z) j none → i ≡ j
-each-descendant-once family f d x y z i j none = once-at (descend-once family f d x y z) i j none
+each-descendant-once family f d x y z i j none = once-at (descendants family d x y z) (descend-once family f d x y z) i j none
 
 -- so there are 4^d
 pub as-many-descendants : (family : List ℕ) → length family ≡ 4 → (d x y z : ℕ) → length (descendants family d x y z) ≡ 4 ^ d
@@ -103,7 +103,7 @@ entries-lead-back {t = t} m h u =
 pub each-entry-once : (family : List ℕ) → IsFamily family → (d : ℕ) {x y z : ℕ} → OnMap x y z → z + d ≤ maxZoom → (i j : ℕ)
     → i < length (entriesOf (descendants family d x y z)) → j < length (entriesOf (descendants family d x y z))
     → getD (entriesOf (descendants family d x y z)) i 0 ≡ getD (entriesOf (descendants family d x y z)) j 0 → i ≡ j
-each-entry-once family f d {x} {y} {z} m h i j = once-at (once-map _ (descend-once family f d x y z) same) i j 0
+each-entry-once family f d {x} {y} {z} m h i j = once-at _ (once-map _ (descendants family d x y z) (descend-once family f d x y z) same) i j 0
   where
     back : (t : Tile) → List·Memᴰ t (descendants family d x y z) → entryTile (entryOf (t .x) (t .y) (t .z)) ≡ t
     back t k = entries-lead-back m h (the-descendants family f d x y z t .0 k) .1

@@ -1,7 +1,7 @@
 -- The tiles that lie under a tile, and that a list of descendants has each of them once.
 use mathlib.Core.Path.{_≡_, refl, sym, ap, _∙_}
 use mathlib.Core.Logic.{_↔_}
-use mathlib.Core.List.{List, [], _∷_, List·Memᴰ, List·Memᴰ·head, List·Memᴰ·tail, List·Memᴰ·not-nil, List·Memᴰ·eq-of-singleton}
+use mathlib.Core.List.{List, [], _∷_, List·Memᴰ, List·Memᴰ·head, List·Memᴰ·tail, List·Memᴰ·not-nil, List·Memᴰ·eq-of-singleton, List·Nodup, Pairwise·nil}
 use Prim.Native.Nat.{ℕ, zero, suc, _+_, _*_, _/_, _%_, _^_, _≤_, _<_}
 use native.Mathlib.Decide.{decLe}
 use native.Mathlib.Nat.{div-one}
@@ -12,7 +12,7 @@ use Rattle.tile.specs.OnMap.{tileAt}
 use Rattle.tile.specs.Order.{tile-ext}
 use Rattle.tile.specs.declared.Tile.{Tile}
 use Rattle.children.specs.Children.{descendants}
-use Rattle.children.specs.Members.{Once, none, more, in-gather, into-gather, once-gather, not-first, in-rest}
+use Rattle.children.specs.Members.{once-more, in-gather, into-gather, once-gather, not-first, in-rest}
 
 -- a tile t lies d zooms under the tile (x, y, z)
 pub record Under (d x y z : ℕ) (t : Tile) : Type 0 where
@@ -23,7 +23,7 @@ pub record Under (d x y z : ℕ) (t : Tile) : Type 0 where
 -- the order of a family: each of the digits 0 to 3 once
 pub record IsFamily (family : List ℕ) : Type 0 where
   pub digits : (q : ℕ) → List·Memᴰ q family ↔ q < 4
-  pub once : Once family
+  pub once : List·Nodup family
 
 one-more : (a d : ℕ) → a / 2 ^ suc d ≡ a / 2 ^ d / 2
 one-more a d = rw (← add-one d) (sym (shr-shr a d 1))
@@ -66,11 +66,11 @@ one-child : (d x y z q r : ℕ) (t : Tile) → q < 4 → r < 4 → Under d (2 * 
     → Under d (2 * x + r % 2) (2 * y + r / 2) z t → q ≡ r
 one-child d x y z q r t h k u v = omega (arith, u .column, u .row, v .column, v .row)
 
-pub descend-once : (family : List ℕ) → IsFamily family → (d x y z : ℕ) → Once (descendants family d x y z)
+pub descend-once : (family : List ℕ) → IsFamily family → (d x y z : ℕ) → List·Nodup (descendants family d x y z)
 unfolding descendants
-descend-once family f zero x y z = more List·Memᴰ·not-nil none
+descend-once family f zero x y z = once-more List·Memᴰ·not-nil Pairwise·nil
 descend-once family f (suc d) x y z =
-    once-gather _ (f .once) (λ q. descend-once family f d (2 * x + q % 2) (2 * y + q / 2) (suc z))
+    once-gather _ family (f .once) (λ q. descend-once family f d (2 * x + q % 2) (2 * y + q / 2) (suc z))
     (λ t q r a b k m. one-child d x y (suc z) q r t (small q a) (small r b) (descend-under family small d _ _ _ t k) (descend-under family small d _ _ _ t m))
   where
     small : (q : ℕ) → List·Memᴰ q family → q < 4
@@ -85,9 +85,9 @@ descend-zoom family (suc d) x y z t m = let s = in-gather _ family m in descend-
 pub in-either-order : (a b : ℕ) → 1 < a → a < 4 → 1 < b → b < 4 → (a ≡ b → ⊥) → IsFamily (0 ∷ 1 ∷ a ∷ b ∷ [])
 in-either-order a b la sa lb sb n = record {
   digits = λ q. (in-rest (omega arith) (in-rest (omega arith) (in-rest sa (in-rest sb (λ m. absurd (List·Memᴰ·not-nil m))))), there q);
-  once = more (not-first 0 1 (λ e. omega arith) (not-first 0 a (λ e. omega arith) (not-first 0 b (λ e. omega arith) List·Memᴰ·not-nil)))
-      (more (not-first 1 a (λ e. omega arith) (not-first 1 b (λ e. omega arith) List·Memᴰ·not-nil))
-      (more (not-first a b n List·Memᴰ·not-nil) (more List·Memᴰ·not-nil none)));
+  once = once-more (not-first 0 1 (λ e. omega arith) (not-first 0 a (λ e. omega arith) (not-first 0 b (λ e. omega arith) List·Memᴰ·not-nil)))
+      (once-more (not-first 1 a (λ e. omega arith) (not-first 1 b (λ e. omega arith) List·Memᴰ·not-nil))
+      (once-more (not-first a b n List·Memᴰ·not-nil) (once-more List·Memᴰ·not-nil Pairwise·nil)));
 }
   where
     there : (q : ℕ) → q < 4 → List·Memᴰ q (0 ∷ 1 ∷ a ∷ b ∷ [])

@@ -11,7 +11,7 @@ use lib.ListN.{length, take, drop, getD, set, length-append, length-map, length-
 use lib.Pow.{pow-pos}
 use lib.Seq.{take-suc, take-at, drop-at, drop-drop, take-length, set-split}
 use borrow.Author.Tests.{le-leb, lt-leb, le-ltb, leb-true, ltb-true}
-use Rattle.bits.specs.Tests.{and-parts}
+use Rattle.bits.specs.Tests.{and-parts, allOf, all-at}
 use Rattle.children.specs.Children.{gather, entriesOf}
 use Rattle.children.specs.Laws.{gather-append}
 use Rattle.errors.specs.Answer.{answer, written}
@@ -38,21 +38,11 @@ pub eight : (wrap : Bool) → length (orderOf wrap) ≡ 8
 eight true = refl
 eight false = refl
 
-allBelow : ℕ → List ℕ → Bool
-allBelow m [] = true
-allBelow m (a ∷ l) = ltb a m && allBelow m l
-
-entry-below : (m : ℕ) (l : List ℕ) (k : ℕ) → allBelow m l ≡ true → k < length l → getD l k 0 < m
-unfolding allBelow
-entry-below m [] k e h = absurd (omega arith)
-entry-below m (a ∷ l) zero e h = ltb-true a m (and-parts (ltb a m) (allBelow m l) e .0)
-entry-below m (a ∷ l) (suc k) e h = entry-below m l k (and-parts (ltb a m) (allBelow m l) e .1) (omega arith)
-
 -- a place that is gone through is one of the nine
 pub one-of-nine : (wrap : Bool) (k : ℕ) → k < 8 → getD (orderOf wrap) k 0 < 9
-unfolding allBelow
-one-of-nine true k h = entry-below 9 (orderOf true) k refl h
-one-of-nine false k h = entry-below 9 (orderOf false) k refl h
+unfolding allOf
+one-of-nine true k h = ltb-true _ 9 (all-at (λ s. ltb s 9) (orderOf true) k refl h)
+one-of-nine false k h = ltb-true _ 9 (all-at (λ s. ltb s 9) (orderOf false) k refl h)
 
 -- the tiles found among the first k places
 abbrev pub found : Bool → ℕ → ℕ → ℕ → ℕ → List Tile

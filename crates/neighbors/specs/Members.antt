@@ -2,34 +2,21 @@
 use mathlib.Core.Path.{_≡_, refl, sym, ap, _∙_}
 use mathlib.Core.Bool.{Bool, true, false, cond, not, _&&_, _||_}
 use mathlib.Core.Logic.{_⊎_, inl, inr}
-use mathlib.Core.List.{List, [], _∷_, List·Memᴰ, List·Memᴰ·head, List·Memᴰ·tail, List·Memᴰ·not-nil, List·Memᴰ·cases-cons, List·Memᴰ·eq-of-singleton}
+use mathlib.Core.List.{List, [], _∷_, List·Memᴰ, List·Memᴰ·head, List·Memᴰ·tail, List·Memᴰ·not-nil, List·Memᴰ·cases-cons, List·Memᴰ·eq-of-singleton, List·Nodup, Pairwise·nil}
 use Prim.Native.Nat.{ℕ, zero, suc, _+_, _-_, _*_, _/_, _%_, _^_, _≤_, _<_}
 use native.Mathlib.Nat.{add-mod-right, mod-add-mod, mod-eq-of-lt}
 use native.Mathlib.Omega.{arith}
 use lib.Dec.{leb, ltb, eqb}
 use borrow.Author.Tests.{lt-ltb, leb-true, ltb-true, eqb-true, eqb-false}
 use Rattle.children.specs.Children.{gather}
-use Rattle.children.specs.Members.{Once, none, more, once-gather}
+use Rattle.children.specs.Members.{once-more, once-gather}
 use Rattle.tile.specs.OnMap.{OnMap, tileAt}
 use Rattle.tile.specs.Order.{tile-ext}
 use Rattle.tile.specs.declared.Tile.{Tile}
 use Rattle.neighbors.specs.Neighbors.{around, inside, near, nearOf, orderOf}
-use Rattle.bits.specs.Tests.{and-parts}
+use Rattle.bits.specs.Tests.{and-parts, allOf, all-in}
 use Rattle.neighbors.specs.Laws.{near-on-map}
 use Rattle.neighbors.specs.AsRust.{near-at}
-
-every : (ℕ → Bool) → List ℕ → Bool
-every p [] = true
-every p (a ∷ l) = p a && every p l
-
-every-mem : (p : ℕ → Bool) (l : List ℕ) {s : ℕ} → every p l ≡ true → List·Memᴰ s l → p s ≡ true
-unfolding every
-every-mem p [] e m = absurd (List·Memᴰ·not-nil m)
-every-mem p (a ∷ l) {s} e m = let k = and-parts (p a) (every p l) e in pick (List·Memᴰ·cases-cons m) (k .0) (every-mem p l (k .1))
-  where
-    pick : (s ≡ a) ⊎ List·Memᴰ s l → p a ≡ true → (List·Memᴰ s l → p s ≡ true) → p s ≡ true
-    pick (inl f) h below = rw f h
-    pick (inr n) h below = below n
 
 holds : ℕ → List ℕ → Bool
 holds s [] = false
@@ -48,8 +35,8 @@ holds-mem s (a ∷ l) e = pick (eqb s a) refl e (holds-mem s l)
 abbrev notMiddle : ℕ → Bool
 notMiddle s = ltb s 9 && not (eqb s 4)
 
-never-middle : (wrap : Bool) → every notMiddle (orderOf wrap) ≡ true
-unfolding every
+never-middle : (wrap : Bool) → allOf notMiddle (orderOf wrap) ≡ true
+unfolding allOf
 never-middle true = refl
 never-middle false = refl
 
@@ -59,7 +46,7 @@ not-true false e = refl
 
 pub around-place : (wrap : Bool) {s : ℕ} → List·Memᴰ s (orderOf wrap) → (s < 9) × (s ≡ 4 → ⊥)
 around-place wrap {s} m =
-    let p = and-parts (ltb s 9) (not (eqb s 4)) (every-mem notMiddle (orderOf wrap) (never-middle wrap) m) in
+    let p = and-parts (ltb s 9) (not (eqb s 4)) (all-in notMiddle (orderOf wrap) (never-middle wrap) m) in
     (ltb-true s 9 (p .0), eqb-false s 4 (not-true (eqb s 4) (p .1)))
 
 pub place-around : (s : ℕ) → s < 9 → (s ≡ 4 → ⊥) → List·Memᴰ s around
@@ -163,31 +150,31 @@ distinct : List ℕ → Bool
 distinct [] = true
 distinct (a ∷ l) = not (holds a l) && distinct l
 
-distinct-once : (l : List ℕ) → distinct l ≡ true → Once l
+distinct-once : (l : List ℕ) → distinct l ≡ true → List·Nodup l
 unfolding distinct
-distinct-once [] e = none
-distinct-once (a ∷ l) e = let p = and-parts (not (holds a l)) (distinct l) e in more (λ m. clash (holds a l) (mem-holds l m) (p .0)) (distinct-once l (p .1))
+distinct-once [] e = Pairwise·nil
+distinct-once (a ∷ l) e = let p = and-parts (not (holds a l)) (distinct l) e in once-more (λ m. clash (holds a l) (mem-holds l m) (p .0)) (distinct-once l (p .1))
   where
     clash : (b : Bool) → b ≡ true → not b ≡ true → ⊥
     clash true e f = let z : _≡_ {A = ℕ} 0 1 = cc in omega arith
     clash false e f = let z : _≡_ {A = ℕ} 0 1 = cc in omega arith
 
-order-once : (wrap : Bool) → Once (orderOf wrap)
+order-once : (wrap : Bool) → List·Nodup (orderOf wrap)
 unfolding distinct holds
 order-once true = distinct-once (orderOf true) refl
 order-once false = distinct-once (orderOf false) refl
 
-one-at-most : (b : Bool) (t : Tile) → Once (cond b (t ∷ []) [])
-one-at-most true t = more List·Memᴰ·not-nil none
-one-at-most false t = none
+one-at-most : (b : Bool) (t : Tile) → List·Nodup (cond b (t ∷ []) [])
+one-at-most true t = once-more List·Memᴰ·not-nil Pairwise·nil
+one-at-most false t = Pairwise·nil
 
-near-once : (wrap : Bool) (x y z s : ℕ) → Once (nearOf wrap x y z s)
+near-once : (wrap : Bool) (x y z s : ℕ) → List·Nodup (nearOf wrap x y z s)
 near-once true x y z s = one-at-most (inside (2 ^ z) y (s % 3)) (tileAt ((x + s / 3 + 2 ^ z - 1) % 2 ^ z) (y + s % 3 - 1) z)
 near-once false x y z s = one-at-most (inside (2 ^ z) x (s / 3) && inside (2 ^ z) y (s % 3)) (tileAt (x + s / 3 - 1) (y + s % 3 - 1) z)
 
 -- a tile tells the place that it is from, so no two places have it
-pub around-once : (wrap : Bool) (x y z : ℕ) → x < 2 ^ z → 4 ≤ 2 ^ z → Once (gather (nearOf wrap x y z) (orderOf wrap))
-around-once wrap x y z h f = once-gather (nearOf wrap x y z) (order-once wrap) (near-once wrap x y z) (λ t q r k m i j. sym (place t q k i) ∙ place t r m j)
+pub around-once : (wrap : Bool) (x y z : ℕ) → x < 2 ^ z → 4 ≤ 2 ^ z → List·Nodup (gather (nearOf wrap x y z) (orderOf wrap))
+around-once wrap x y z h f = once-gather (nearOf wrap x y z) (orderOf wrap) (order-once wrap) (near-once wrap x y z) (λ t q r k m i j. sym (place t q k i) ∙ place t r m j)
   where
     place : (t : Tile) (s : ℕ) → List·Memᴰ s (orderOf wrap) → List·Memᴰ t (nearOf wrap x y z s) → placeOf wrap x y (2 ^ z) t ≡ s
     place t s k m = place-back wrap x y z s t h f (around-place wrap k .0) m

@@ -9,7 +9,7 @@ use native.Mathlib.Omega.{arith}
 use lib.Dec.{eqb}
 use lib.Pow.{pow-pos}
 use borrow.Author.Tests.{eqb-true, eqb-false, ne-eqb}
-use Rattle.children.specs.Members.{in-gather, into-gather, none, more, once-nodup}
+use Rattle.children.specs.Members.{in-gather, into-gather, once-more}
 use Rattle.children.specs.Children.{gather}
 use Rattle.tile.specs.OnMap.{OnMap, tileAt}
 use Rattle.tile.specs.Order.{tile-ext}
@@ -81,7 +81,7 @@ siblings-on-the-map x y (suc z) t m h k =
     rw (s .zoom) (record { zoom = m .zoom; column = omega (arith, pow-suc 2 z, s .parent); row = omega (arith, pow-suc 2 z, s .parent) })
 
 pub each-sibling-once : (x y z : ℕ) → List·Nodup (siblingsOf x y z)
-each-sibling-once x y z = once-nodup (more first (more second (more List·Memᴰ·not-nil none)))
+each-sibling-once x y z = once-more first (once-more second (once-more List·Memᴰ·not-nil Pairwise·nil))
   where
     same : {a b c d : ℕ} → tileAt a b z ≡ tileAt c d z → (a ≡ c) × (b ≡ d)
     same e = (ap (λ (u : Tile). u .x) e, ap (λ (u : Tile). u .y) e)
@@ -213,4 +213,4 @@ never-the-tile-itself wrap x y (suc (suc z)) m k =
 pub each-neighbour-once : (wrap : Bool) (x y z : ℕ) → OnMap x y z → List·Nodup (neighborsOf wrap x y z)
 each-neighbour-once wrap x y zero m = Pairwise·nil
 each-neighbour-once wrap x y (suc zero) m = each-sibling-once x y 1
-each-neighbour-once wrap x y (suc (suc z)) m = once-nodup (around-once wrap x y (suc (suc z)) (m .column) (wide z))
+each-neighbour-once wrap x y (suc (suc z)) m = around-once wrap x y (suc (suc z)) (m .column) (wide z)

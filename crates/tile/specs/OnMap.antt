@@ -96,8 +96,9 @@ corner-zero z = column-zero 0 z ∙ rw (lt-leb _ _ (pow-pos z)) (pick (ltb maxZo
     pick true = refl
     pick false = refl
 
-pub on-map-small : {x y z : ℕ} → OnMap x y z → (x < 2 ^ 30) × (y < 2 ^ 30)
-on-map-small {x} {y} {z} m = let l : 2 ^ z ≤ 2 ^ 30 = pow-mono {j = 30} (omega (arith, m .zoom, maxZoom-small)) in (omega (arith, m .column), omega (arith, m .row))
+-- columns and rows are few enough for what the code adds to them
+pub side-small : {z : ℕ} → z ≤ maxZoom → 2 ^ z ≤ 2 ^ 30
+side-small h = pow-mono {j = 30} (omega (arith, maxZoom-small))
 
-pub side-small : {x y z : ℕ} → OnMap x y z → 2 ^ z ≤ 2 ^ 30
-side-small m = pow-mono {j = 30} (omega (arith, m .zoom, maxZoom-small))
+pub on-map-small : {x y z : ℕ} → OnMap x y z → (x < 2 ^ 30) × (y < 2 ^ 30)
+on-map-small m = let l = side-small (m .zoom) in (omega (arith, m .column), omega (arith, m .row))

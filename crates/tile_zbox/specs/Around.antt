@@ -1,9 +1,10 @@
 -- The smallest box of a list of tiles, with refusals 6, 7, 8 and 9 of whoever sends the list.
-use mathlib.Core.Bool.{Bool, true, not, _&&_}
+use mathlib.Core.Bool.{Bool, not}
 use mathlib.Core.List.{List, [], _∷_, map}
 use Prim.Native.Nat.{ℕ, min, max}
 use lib.Dec.{ltb, eqb}
 use lib.ListN.{length, getD}
+use Rattle.bits.specs.Tests.{allOf}
 use Rattle.constants.specs.Limits.{maxEntries}
 use Rattle.errors.specs.Answer.{Answer, answer, _when_, _else_}
 use Rattle.ids.specs.Entry.{entryTile, entryRefusal}
@@ -16,10 +17,6 @@ isEntry n = eqb (entryRefusal n) 0
 
 abbrev pub ofZoom : ℕ → ℕ → Bool
 ofZoom z n = eqb (entryTile n .z) z
-
-unfoldable pub allOf : (ℕ → Bool) → List ℕ → Bool
-allOf p [] = true
-allOf p (n ∷ ns) = p n && allOf p ns
 
 -- the zoom of the first tile
 abbrev pub firstZoom : List ℕ → ℕ

@@ -1,23 +1,20 @@
 -- Laws of boxes: which are refused, and that their numbers fit.
 use mathlib.Core.Path.{_≡_, refl}
-use mathlib.Core.Bool.{Bool, true, false, _&&_, _||_}
+use mathlib.Core.Bool.{Bool, true, false, _||_}
 use Prim.Native.Nat.{ℕ, _+_, _-_, _*_, _/_, _%_, _^_, _≤_, _<_}
 use native.Mathlib.Nat.{mul-le-mul, mul-comm, mod-lt, div-lt-iff-lt-mul, lt-of-le-of-lt, lt-of-lt-of-le}
 use native.Mathlib.Omega.{arith}
 use lib.Arith.{digits-lt}
 use lib.Dec.{leb, ltb}
-use lib.Pow.{pow-pos, pow-mono, pow-add}
+use lib.Pow.{pow-pos, pow-add}
 use borrow.Author.Tests.{leb-false, ltb-false, lt-leb, le-ltb, lt-ltb}
-use Rattle.constants.specs.Limits.{maxZoom, maxZoom-small}
+use Rattle.constants.specs.Limits.{maxZoom}
 use Rattle.errors.specs.Answer.{_when_, _else_}
+use Rattle.tile.specs.OnMap.{side-small}
 use Rattle.tile_zbox.specs.Box.{IsBox, wrongRun, wrongEdges, boxRefusal, columnsOf, rowsOf, boxLength, zoomedIn, zoomedBy}
 use Rattle.tile_zbox.specs.declared.TileZBox.{TileZBox}
 
--- two tests that both hold, and two of which neither does
-pub both : (a b : Bool) → (a && b) ≡ true → (a ≡ true) × (b ≡ true)
-both true b e = (refl, e)
-both false b e = let z : _≡_ {A = ℕ} 0 1 = cc in absurd (omega arith)
-
+-- of two tests neither holds
 pub neither : (a b : Bool) → (a || b) ≡ false → (a ≡ false) × (b ≡ false)
 neither true b e = let z : _≡_ {A = ℕ} 0 1 = cc in absurd (omega arith)
 neither false b e = (refl, e)
@@ -63,10 +60,7 @@ accepted-box b e = pick (ltb maxZoom (b .zoom)) refl (wrongEdges b) refl e
     pick false f true g e = absurd (omega arith)
     pick false f false g e = edges-fine b (ltb-false _ _ f) g
 
--- how many columns and rows a zoom can have, and a box
-pub side-small : (z : ℕ) → z ≤ maxZoom → 2 ^ z ≤ 2 ^ 30
-side-small z h = pow-mono {j = 30} (omega (arith, maxZoom-small))
-
+-- how many columns and rows a box can have
 pub columns-fit : {b : TileZBox} → IsBox b → columnsOf b ≤ 2 ^ b .zoom
 columns-fit h = omega (arith, h .columns, h .east)
 
@@ -79,14 +73,14 @@ unfolding boxLength
 length-within h = mul-le-mul (columns-fit h) (rows-fit h)
 
 pub length-small : {b : TileZBox} → IsBox b → boxLength b < 2 ^ 61
-length-small {b} h = lt-of-le-of-lt (length-within h) (lt-of-le-of-lt (mul-le-mul (side-small (b .zoom) (h .zoom)) (side-small (b .zoom) (h .zoom))) (omega arith))
+length-small {b} h = lt-of-le-of-lt (length-within h) (lt-of-le-of-lt (mul-le-mul (side-small (h .zoom)) (side-small (h .zoom))) (omega arith))
 
 -- d zooms deeper, a run of numbers below 2 ^ z is one below 2 ^ (z + d)
 pub scaled-below : {n : ℕ} (z d : ℕ) → n < 2 ^ z → n * 2 ^ d + (2 ^ d - 1) < 2 ^ (z + d)
 scaled-below z d h = rw (pow-add 2 z d) (digits-lt h (omega (arith, pow-pos d)))
 
 pub scaled-small : {n : ℕ} (z d : ℕ) → n < 2 ^ z → z + d ≤ maxZoom → n * 2 ^ d + (2 ^ d - 1) < 2 ^ 30
-scaled-small z d h l = lt-of-lt-of-le (scaled-below z d h) (side-small (z + d) l)
+scaled-small z d h l = lt-of-lt-of-le (scaled-below z d h) (side-small l)
 
 pub zoomed-once : (b : TileZBox) → zoomedBy b 1 ≡ zoomedIn b
 unfolding zoomedBy zoomedIn

@@ -11,14 +11,15 @@ use lib.ListN.{length, take, drop, getD, set, drop-of-length-le, length-map, len
 use lib.Pow.{pow-mono}
 use lib.Seq.{drop-cons, drop-drop, getD-drop, take-suc, take-add, take-at, drop-at, sets, sets-eq, length-take-le}
 use borrow.Author.Tests.{ltb-false, lt-ltb, le-ltb, eqb-true, eqb-false, eq-eqb, ne-eqb}
+use Rattle.bits.specs.Tests.{allOf, all-at}
 use Rattle.constants.specs.Limits.{maxZoom, maxEntries, maxBoxes}
 use Rattle.errors.specs.Answer.{_when_, _else_}
 use Rattle.errors.specs.Memory.{front}
 use Rattle.ids.specs.Entry.{entryTile, entryRefusal}
-use Rattle.tile_zbox.specs.Around.{isEntry, ofZoom, allOf, firstZoom, listRefusal, least, greatest, columnOf, rowOf, boxAround, grown}
+use Rattle.tile_zbox.specs.Around.{isEntry, ofZoom, firstZoom, listRefusal, least, greatest, columnOf, rowOf, boxAround, grown}
 use Rattle.tile_zbox.specs.Box.{IsBox, boxAt, wrongEdges, boxLength, flipped}
 use Rattle.tile_zbox.specs.Boxes.{boxFrom, boxesFrom, boxesOf, anyOf, deep, boxesRefusal, sumLengths, numbers, numbersOf, flippedNumbers}
-use Rattle.tile_zbox.specs.Laws.{both, neither, edges-fine, length-within}
+use Rattle.tile_zbox.specs.Laws.{neither, edges-fine, length-within}
 use Rattle.tile_zbox.specs.declared.TileZBox.{TileZBox}
 
 -- whether all entries from place i on are so, one entry on
@@ -33,12 +34,6 @@ all-bad p l i h e = rw (drop-cons l i 0 h, e)
 pub all-past : (p : ℕ → Bool) (l : List ℕ) (i : ℕ) → length l ≤ i → allOf p (drop i l) ≡ true
 unfolding allOf
 all-past p l i h = rw (drop-of-length-le l h)
-
-pub all-at : (p : ℕ → Bool) (l : List ℕ) (i : ℕ) → allOf p l ≡ true → i < length l → p (getD l i 0) ≡ true
-unfolding allOf
-all-at p [] i e h = absurd (omega arith)
-all-at p (n ∷ ns) zero e h = both (p n) (allOf p ns) e .0
-all-at p (n ∷ ns) (suc i) e h = all-at p ns i (both (p n) (allOf p ns) e .1) (omega arith)
 
 pub entry-at : (l : List ℕ) (i : ℕ) → allOf isEntry l ≡ true → i < length l → entryRefusal (getD l i 0) ≡ 0
 entry-at l i e h = eqb-true _ _ (all-at isEntry l i e h)

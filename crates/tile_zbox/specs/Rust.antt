@@ -9,13 +9,13 @@ use native.Mathlib.Omega.{arith}
 use lib.Arith.{digits-lt}
 use lib.Dec.{ltb, eqb}
 use borrow.Author.Tests.{lt-ltb, le-ltb, ltb-true, ltb-false}
+use Rattle.bits.specs.Tests.{allOf, and-parts}
 use Rattle.ids.specs.Entry.{entryTile}
-use Rattle.tile.specs.OnMap.{tileAt}
+use Rattle.tile.specs.OnMap.{tileAt, side-small}
 use Rattle.tile.specs.declared.Tile.{Tile}
-use Rattle.tile_zbox.specs.Around.{ofZoom, allOf, firstZoom, listRefusal, least, greatest, columnOf, rowOf, boxAround}
+use Rattle.tile_zbox.specs.Around.{ofZoom, listRefusal, least, greatest, columnOf, rowOf, boxAround}
 use Rattle.tile_zbox.specs.Box.{IsBox, boxAt, columnsOf, rowsOf, boxLength, zoomedIn, zoomedBy}
 use Rattle.tile_zbox.specs.Cursor.{kthTile}
-use Rattle.tile_zbox.specs.Laws.{both, side-small}
 use Rattle.tile_zbox.specs.ListLaws.{accepted-one-zoom}
 use Rattle.tile_zbox.specs.Theorems.{zoomed-again, zoomed-by-0, from-tiles-gives-a-box}
 use Rattle.tile_zbox.specs.Tiles.{kth-place}
@@ -146,7 +146,7 @@ rust-ends b s i a =
 pub rust-fits : (b : TileZBox) (k : ℕ) (s : RustState) → IsBox b → After b k s → k ≤ boxLength b → (s .column ≤ 2 ^ 30) × (s .row ≤ 2 ^ 30)
 unfolding boxLength
 rust-fits b k s i a h =
-    let w = side-small (b .zoom) (i .zoom) in
+    let w = side-small (i .zoom) in
     let p : (s .row - b .miny) * columnsOf b ≤ rowsOf b * columnsOf b = rw (mul-comm (rowsOf b) (columnsOf b)) (omega (arith, a .place)) in
     let o : 0 < columnsOf b = omega arith in
     let r = le-of-mul-le-mul-right p o in
@@ -222,10 +222,10 @@ moved-more b n m ms =
 walked : (n : ℕ) (ns : List ℕ) (b : TileZBox) → allOf (ofZoom (b .zoom)) (n ∷ ns) ≡ true → rustWalk b (map entryTile (n ∷ ns)) ≡ record { fine = true; box = moved-by b (n ∷ ns) }
 unfolding allOf
 walked n [] b e =
-    let h = both (ofZoom (b .zoom) n) true e in
+    let h = and-parts (ofZoom (b .zoom) n) true e in
     walk-fine b (entryTile n) [] (h .0) ∙ (walk-none (moved b (entryTile n)) ∙ ap (λ (v : TileZBox). record { fine = true; box = v }) (moved-one b n))
 walked n (m ∷ ms) b e =
-    let h = both (ofZoom (b .zoom) n) (allOf (ofZoom (b .zoom)) (m ∷ ms)) e in
+    let h = and-parts (ofZoom (b .zoom) n) (allOf (ofZoom (b .zoom)) (m ∷ ms)) e in
     walk-fine b (entryTile n) (map entryTile (m ∷ ms)) (h .0) ∙ (walked m ms (moved b (entryTile n)) (h .1) ∙ ap (λ (v : TileZBox). record { fine = true; box = v }) (moved-more b n m ms))
 
 -- of a list that is not refused it is the same box
@@ -235,7 +235,7 @@ rust-from-tiles [] e = let s = accepted-one-zoom [] e .some in absurd (omega ari
 rust-from-tiles (n ∷ ns) e =
     let k = accepted-one-zoom (n ∷ ns) e in
     let i = from-tiles-gives-a-box (n ∷ ns) e in
-    let w = side-small (firstZoom (n ∷ ns)) (i .zoom) in
+    let w = side-small (i .zoom) in
     let p : min (2 ^ 32 - 1) (least (map columnOf (n ∷ ns))) ≡ least (map columnOf (n ∷ ns)) = omega (arith, i .columns, i .east) in
     let r : min (2 ^ 32 - 1) (least (map rowOf (n ∷ ns))) ≡ least (map rowOf (n ∷ ns)) = omega (arith, i .rows, i .south) in
     let q : max 0 (greatest (map columnOf (n ∷ ns))) ≡ greatest (map columnOf (n ∷ ns)) = omega arith in

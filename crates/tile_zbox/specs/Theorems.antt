@@ -9,6 +9,7 @@ use native.Mathlib.Omega.{arith}
 use lib.ListN.{length, getD}
 use lib.Pow.{pow-pos}
 use borrow.Author.Tests.{le-ltb, lt-ltb, eqb-true}
+use Rattle.bits.specs.Tests.{all-at}
 use Rattle.constants.specs.Limits.{maxZoom, maxBoxes}
 use Rattle.errors.specs.Answer.{Answer}
 use Rattle.ids.specs.Entry.{entryTile, accepted-entry}
@@ -19,7 +20,7 @@ use Rattle.tile_zbox.specs.Box.{IsBox, boxAt, wrongEdges, boxRefusal, in
 use Rattle.tile_zbox.specs.Boxes.{boxesFrom, boxesOf, deep, boxesRefusal, sumLengths, boxesLengthOf, numbersOf}
 use Rattle.tile_zbox.specs.Cursor.{cursorAt, kthTile, ended, nextOf}
 use Rattle.tile_zbox.specs.Laws.{box-accepted, accepted-box, scaled-below}
-use Rattle.tile_zbox.specs.ListLaws.{accepted-one-zoom, all-at, entry-at, Fine, any-none, all-boxes-accepted, numbers-length}
+use Rattle.tile_zbox.specs.ListLaws.{accepted-one-zoom, entry-at, Fine, any-none, all-boxes-accepted, numbers-length}
 use Rattle.tile_zbox.specs.Tiles.{Holds, holds-in, in-holds, tilesOf, numberedFrom, numbered-all, numbered-length, member-number, number-member, kth-holds, placeOf, place-below, kth-of-place, place-of-kth, Gives, next-ends, gives-numbered}
 use Rattle.tile_zbox.specs.declared.TileZBox.{TileZBox}
 

@@ -11,12 +11,13 @@ use lib.Arith.{digits-lt, digits-div, digits-mod}
 use lib.Dec.{leb, eqb}
 use lib.ListN.{length}
 use borrow.Author.Tests.{le-leb, leb-true, eq-eqb, eqb-true, lt-ltb, le-ltb}
+use Rattle.bits.specs.Tests.{and-parts}
 use Rattle.tile.specs.OnMap.{tileAt}
 use Rattle.tile.specs.Order.{tile-ext}
 use Rattle.tile.specs.declared.Tile.{Tile}
 use Rattle.tile_zbox.specs.Box.{IsBox, inRun, inBox, columnsOf, rowsOf, boxLength}
 use Rattle.tile_zbox.specs.Cursor.{cursorAt, kthTile, given, ended, nextOf}
-use Rattle.tile_zbox.specs.Laws.{both, box-accepted, column-below, row-below}
+use Rattle.tile_zbox.specs.Laws.{box-accepted, column-below, row-below}
 use Rattle.tile_zbox.specs.declared.TileZBox.{TileZBox}
 use Rattle.tile_zbox.specs.declared.TileZBoxIterator.{TileZBoxIterator}
 
@@ -35,10 +36,10 @@ holds-in b t h = rw (eq-eqb _ _ (h .zoom), le-leb _ _ (h .west), le-leb _ _ (h .
 pub in-holds : (b : TileZBox) (t : Tile) → inBox b (t .x) (t .y) (t .z) ≡ true → Holds b t
 unfolding inBox
 in-holds b t e =
-    let p = both (eqb (t .z) (b .zoom)) _ e in
-    let q = both (inRun (t .x) (b .minx) (b .maxx)) (inRun (t .y) (b .miny) (b .maxy)) (p .1) in
-    let x = both (leb (b .minx) (t .x)) (leb (t .x) (b .maxx)) (q .0) in
-    let y = both (leb (b .miny) (t .y)) (leb (t .y) (b .maxy)) (q .1) in
+    let p = and-parts (eqb (t .z) (b .zoom)) _ e in
+    let q = and-parts (inRun (t .x) (b .minx) (b .maxx)) (inRun (t .y) (b .miny) (b .maxy)) (p .1) in
+    let x = and-parts (leb (b .minx) (t .x)) (leb (t .x) (b .maxx)) (q .0) in
+    let y = and-parts (leb (b .miny) (t .y)) (leb (t .y) (b .maxy)) (q .1) in
     record { zoom = eqb-true _ _ (p .0); west = leb-true _ _ (x .0); east = leb-true _ _ (x .1); north = leb-true _ _ (y .0); south = leb-true _ _ (y .1) }
 
 -- the n tiles of a row from column x on

@@ -39,7 +39,7 @@ returns-2 c =
 add-t12 : tie.Need-add-t12
 add-t12 c =
     let s = c .before .before .before .before in
-    omega (arith, nine (c .before .before .before), on-map-small (s .pre .0) .0, side-small (s .pre .0), s .pre .1 .0)
+    omega (arith, nine (c .before .before .before), on-map-small (s .pre .0) .0, side-small (s .pre .0 .zoom), s .pre .1 .0)
 
 sub-t13 : tie.Need-sub-t13
 sub-t13 c = search needs

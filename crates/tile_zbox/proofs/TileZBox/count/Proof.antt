@@ -3,7 +3,8 @@ use Prim.Native.Nat.{_+_, _-_, _*_, _^_, _<_}
 use native.Mathlib.Omega.{arith}
 use borrow.Author.Needs.{needs}
 use Rattle.tile_zbox.specs.Box.{boxLength}
-use Rattle.tile_zbox.specs.Laws.{columns-fit, rows-fit, side-small, length-small}
+use Rattle.tile.specs.OnMap.{side-small}
+use Rattle.tile_zbox.specs.Laws.{columns-fit, rows-fit, length-small}
 use Rattle.tile_zbox.proofs.TileZBox.count.Statement.{statement}
 use Rattle.tile_zbox.proofs.TileZBox.count.Tie as tie
 
@@ -11,7 +12,7 @@ sub-wide : tie.Need-sub-wide
 sub-wide c = search needs
 
 add-wide : tie.Need-add-wide
-add-wide c = omega (arith, columns-fit (c .before .pre), side-small (c .before .args .self .zoom) (c .before .pre .zoom))
+add-wide c = omega (arith, columns-fit (c .before .pre), side-small (c .before .pre .zoom))
 
 wide-requires : tie.Need-wide-requires
 wide-requires c κs = search needs
@@ -20,7 +21,7 @@ sub-wide-2 : tie.Need-sub-wide-2
 sub-wide-2 c = search needs
 
 add-wide-2 : tie.Need-add-wide-2
-add-wide-2 c = omega (arith, rows-fit (c .before .before .before .pre), side-small (c .before .before .before .args .self .zoom) (c .before .before .before .pre .zoom))
+add-wide-2 c = omega (arith, rows-fit (c .before .before .before .pre), side-small (c .before .before .before .pre .zoom))
 
 wide-requires-2 : tie.Need-wide-requires-2
 wide-requires-2 c κs = search needs

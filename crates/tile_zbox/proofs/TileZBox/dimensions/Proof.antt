@@ -3,7 +3,8 @@ use mathlib.Core.Path.{sym}
 use native.Mathlib.Omega.{arith}
 use borrow.Author.Needs.{needs}
 use Rattle.errors.specs.Laws.{check-fine, check-refused, refused-answer}
-use Rattle.tile_zbox.specs.Laws.{accepted-box, columns-fit, rows-fit, side-small}
+use Rattle.tile.specs.OnMap.{side-small}
+use Rattle.tile_zbox.specs.Laws.{accepted-box, columns-fit, rows-fit}
 use Rattle.tile_zbox.proofs.TileZBox.dimensions.Statement.{statement}
 use Rattle.tile_zbox.proofs.TileZBox.dimensions.Tie as tie
 
@@ -19,7 +20,7 @@ sub-t5 c = accepted-box _ (check-fine (c .before .enum-told .given .1) (c .befor
 add-t6 : tie.Need-add-t6
 add-t6 c =
     let b = accepted-box _ (check-fine (c .before .enum-told .given .1) (c .before .before .before .check .ensures)) in
-    omega (arith, columns-fit b, side-small (c .before .before .before .before .args .self .zoom) (b .zoom))
+    omega (arith, columns-fit b, side-small (b .zoom))
 
 sub-t7 : tie.Need-sub-t7
 sub-t7 c = accepted-box _ (check-fine (c .before .before .enum-told .given .1) (c .before .before .before .before .check .ensures)) .rows
@@ -27,7 +28,7 @@ sub-t7 c = accepted-box _ (check-fine (c .before .before .enum-told .given .1) (
 add-t8 : tie.Need-add-t8
 add-t8 c =
     let b = accepted-box _ (check-fine (c .before .before .enum-told .given .1) (c .before .before .before .before .check .ensures)) in
-    omega (arith, rows-fit b, side-small (c .before .before .before .before .before .args .self .zoom) (b .zoom))
+    omega (arith, rows-fit b, side-small (b .zoom))
 
 enum-known-why : tie.Need-enum-known-why
 enum-known-why c = search needs

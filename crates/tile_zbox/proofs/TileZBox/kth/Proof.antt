@@ -2,7 +2,8 @@
 use native.Mathlib.Omega.{arith}
 use borrow.Author.Needs.{needs}
 use Rattle.tile_zbox.specs.Cursor.{kthTile}
-use Rattle.tile_zbox.specs.Laws.{columns-fit, side-small, column-below, row-below}
+use Rattle.tile.specs.OnMap.{side-small}
+use Rattle.tile_zbox.specs.Laws.{columns-fit, column-below, row-below}
 use Rattle.tile_zbox.proofs.TileZBox.kth.Statement.{statement}
 use Rattle.tile_zbox.proofs.TileZBox.kth.Tie as tie
 
@@ -10,7 +11,7 @@ sub-wide : tie.Need-sub-wide
 sub-wide c = search needs
 
 add-wide : tie.Need-add-wide
-add-wide c = omega (arith, columns-fit (c .before .pre .0), side-small (c .before .args .self .zoom) (c .before .pre .0 .zoom))
+add-wide c = omega (arith, columns-fit (c .before .pre .0), side-small (c .before .pre .0 .zoom))
 
 wide-requires : tie.Need-wide-requires
 wide-requires c κs = search needs
