@@ -1,15 +1,25 @@
 -- Tests that are joined, two of them or one for each entry of a list: what holds of each.
 use mathlib.Core.Path.{_≡_, refl}
-use mathlib.Core.Bool.{Bool, true, false, _&&_}
+use mathlib.Core.Bool.{Bool, true, false, not, _&&_, _||_}
 use mathlib.Core.Logic.{_⊎_, inl, inr}
-use mathlib.Core.List.{List, [], _∷_, List·Memᴰ, List·Memᴰ·not-nil, List·Memᴰ·cases-cons}
-use Prim.Native.Nat.{ℕ, zero, suc, _<_}
+use mathlib.Core.List.{List, [], _∷_, List·Memᴰ, List·Memᴰ·head, List·Memᴰ·tail, List·Memᴰ·not-nil, List·Memᴰ·cases-cons}
+use Prim.Native.Nat.{ℕ, zero, suc, _+_, _≤_, _<_}
+use native.Mathlib.Numerals.{add-one}
 use native.Mathlib.Omega.{arith}
-use lib.ListN.{length, getD}
+use lib.ListN.{length, drop, getD, drop-of-length-le}
+use lib.Seq.{drop-cons}
 
 pub and-parts : (a b : Bool) → a && b ≡ true → (a ≡ true) × (b ≡ true)
 and-parts true b e = (refl, e)
 and-parts false b e = let z : _≡_ {A = ℕ} 0 1 = cc in absurd (omega arith)
+
+pub not-true : (b : Bool) → not b ≡ true → b ≡ false
+not-true true e = let z : _≡_ {A = ℕ} 0 1 = cc in absurd (omega arith)
+not-true false e = refl
+
+pub not-false : (b : Bool) → not b ≡ false → b ≡ true
+not-false true e = refl
+not-false false e = let z : _≡_ {A = ℕ} 0 1 = cc in absurd (omega arith)
 
 unfoldable pub allOf : (ℕ → Bool) → List ℕ → Bool
 allOf p [] = true
@@ -29,3 +39,51 @@ all-in p (a ∷ l) {n} e m = let k = and-parts (p a) (allOf p l) e in pick (List
     pick : (n ≡ a) ⊎ List·Memᴰ n l → p a ≡ true → (List·Memᴰ n l → p n ≡ true) → p n ≡ true
     pick (inl f) h below = rw f h
     pick (inr i) h below = below i
+
+pub in-all : (p : ℕ → Bool) (l : List ℕ) → ((n : ℕ) → List·Memᴰ n l → p n ≡ true) → allOf p l ≡ true
+unfolding allOf
+in-all p [] each = refl
+in-all p (a ∷ l) each = rw (each a (List·Memᴰ·head refl), in-all p l (λ n m. each n (List·Memᴰ·tail m)))
+
+-- whether all entries from place i on are so, one entry on
+pub all-here : (p : ℕ → Bool) (l : List ℕ) (i : ℕ) → i < length l → p (getD l i 0) ≡ true → allOf p (drop i l) ≡ allOf p (drop (i + 1) l)
+unfolding allOf
+all-here p l i h e = rw (add-one i, drop-cons l i 0 h, e)
+
+pub all-bad : (p : ℕ → Bool) (l : List ℕ) (i : ℕ) → i < length l → p (getD l i 0) ≡ false → allOf p (drop i l) ≡ false
+unfolding allOf
+all-bad p l i h e = rw (drop-cons l i 0 h, e)
+
+pub all-past : (p : ℕ → Bool) (l : List ℕ) (i : ℕ) → length l ≤ i → allOf p (drop i l) ≡ true
+unfolding allOf
+all-past p l i h = rw (drop-of-length-le l h)
+
+-- what stands at a place of a list is in it
+pub getD-in : {A : Type 0} (l : List A) (i : ℕ) (d : A) → i < length l → List·Memᴰ (getD l i d) l
+getD-in [] i d h = absurd (omega arith)
+getD-in (a ∷ l) zero d h = List·Memᴰ·head refl
+getD-in (a ∷ l) (suc i) d h = List·Memᴰ·tail (getD-in l i d (omega arith))
+
+unfoldable pub anyOf : {A : Type 0} → (A → Bool) → List A → Bool
+anyOf p [] = false
+anyOf p (a ∷ l) = p a || anyOf p l
+
+pub in-any : {A : Type 0} (p : A → Bool) (l : List A) {a : A} → List·Memᴰ a l → p a ≡ true → anyOf p l ≡ true
+unfolding anyOf
+in-any p [] m e = absurd (List·Memᴰ·not-nil m)
+in-any {A} p (b ∷ l) {a} m e = pick (List·Memᴰ·cases-cons m) (p b) refl (λ k. in-any p l k e)
+  where
+    pick : (a ≡ b) ⊎ List·Memᴰ a l → (c : Bool) → p b ≡ c → (List·Memᴰ a l → anyOf p l ≡ true) → c || anyOf p l ≡ true
+    pick i true f below = refl
+    pick (inl g) false f below = let z : _≡_ {A = ℕ} 0 1 = cc in absurd (omega arith)
+    pick (inr k) false f below = below k
+
+pub any-in : {A : Type 0} (p : A → Bool) (l : List A) → anyOf p l ≡ true → (a : A) × List·Memᴰ a l × (p a ≡ true)
+unfolding anyOf
+any-in p [] e = let z : _≡_ {A = ℕ} 0 1 = cc in absurd (omega arith)
+any-in {A} p (b ∷ l) e = pick (p b) refl e (any-in p l)
+  where
+    pick : (c : Bool) → p b ≡ c → c || anyOf p l ≡ true → (anyOf p l ≡ true → (a : A) × List·Memᴰ a l × (p a ≡ true))
+        → (a : A) × List·Memᴰ a (b ∷ l) × (p a ≡ true)
+    pick true f g below = (b, List·Memᴰ·head refl, f)
+    pick false f g below = let s = below g in (s .0, List·Memᴰ·tail (s .1), s .2)

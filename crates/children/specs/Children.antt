@@ -1,10 +1,10 @@
 -- The descendants of a tile, in the order of document 01.
-use mathlib.Core.List.{List, [], _∷_, _++_, map}
+use mathlib.Core.List.{List, [], _∷_, _++_}
 use Prim.Native.Nat.{ℕ, zero, suc, _+_, _-_, _*_, _/_, _%_}
 use lib.Dec.{ltb}
 use Rattle.constants.specs.Limits.{maxZoom}
 use Rattle.errors.specs.Answer.{Lent, written, _when_, _else_}
-use Rattle.ids.specs.Entry.{entryOf}
+use Rattle.ids.specs.Entry.{entriesOf}
 use Rattle.tile.specs.OnMap.{tileAt, tileRefusal}
 use Rattle.tile.specs.declared.Tile.{Tile}
 
@@ -24,10 +24,6 @@ gather f (q ∷ qs) = f q ++ gather f qs
 unfoldable pub descendants : List ℕ → ℕ → ℕ → ℕ → ℕ → List Tile
 descendants family zero x y z = tileAt x y z ∷ []
 descendants family (suc d) x y z = gather (λ q. descendants family d (2 * x + q % 2) (2 * y + q / 2) (suc z)) family
-
--- tiles as a list holds them
-abbrev pub entriesOf : List Tile → List ℕ
-entriesOf ts = map (λ t. entryOf (t .x) (t .y) (t .z)) ts
 
 -- 1 for a target zoom too deep, or the tile's own, then 2; `target - z` is 0 for a target of z or less
 abbrev pub childrenOf : List ℕ → ℕ → ℕ → ℕ → ℕ → List ℕ → Lent ℕ

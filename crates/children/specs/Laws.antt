@@ -14,7 +14,8 @@ use Rattle.constants.specs.Limits.{maxZoom}
 use Rattle.errors.specs.Answer.{_when_, _else_}
 use Rattle.tile.specs.OnMap.{OnMap, tileRefusal, too-deep}
 use Rattle.tile.specs.declared.Tile.{Tile}
-use Rattle.children.specs.Children.{familyOf, gather, descendants, entriesOf}
+use Rattle.children.specs.Children.{familyOf, gather, descendants}
+use Rattle.ids.specs.Entry.{entriesOf}
 
 pub gather-append : {A : Type 0} (f : ℕ → List A) (a b : List ℕ) → gather f (a ++ b) ≡ gather f a ++ gather f b
 unfolding gather

@@ -10,6 +10,7 @@ use Prim.Native.Nat.{ℕ, zero, suc, _+_, _*_, _<_}
 use native.Mathlib.Omega.{arith}
 use lib.ListN.{length, take, drop, getD}
 use lib.Seq.{take-at, drop-append-add}
+use Rattle.bits.specs.Tests.{getD-in}
 use Rattle.children.specs.Children.{gather}
 
 -- membership in lists that are gathered
@@ -53,11 +54,6 @@ once-gather {A} f (q ∷ qs) o each apart =
         ∥∥₁-elim a ⊥-prop (λ (i : List·Memᴰ t (f q)). ∥∥₁-elim b ⊥-prop (λ (j : List·Memᴰ t (gather f qs)).
         let s = in-gather f qs j in
         once-rest o .0 (Memᴰ·cast (apart t q (s .0) (List·Memᴰ·head refl) (List·Memᴰ·tail (s .1)) i (s .2)) (s .1))))
-
-pub getD-in : {A : Type 0} (l : List A) (i : ℕ) (d : A) → i < length l → List·Memᴰ (getD l i d) l
-getD-in [] i d h = absurd (omega arith)
-getD-in (a ∷ l) zero d h = List·Memᴰ·head refl
-getD-in (a ∷ l) (suc i) d h = List·Memᴰ·tail (getD-in l i d (omega arith))
 
 -- the same entry at two places: it is one place
 pub once-at : {A : Type 0} (l : List A) → List·Nodup l → (i j : ℕ) (d : A) → i < length l → j < length l → getD l i d ≡ getD l j d → i ≡ j

@@ -10,11 +10,11 @@ use lib.Pow.{pow-pos, pow-add}
 use borrow.Author.Tests.{lt-ltb, le-ltb}
 use Rattle.bits.specs.Bits.{bit}
 use Rattle.constants.specs.Limits.{maxZoom}
-use Rattle.ids.specs.Entry.{entryOf, entryTile, entryRefusal, entry-accepted, entry-tile-again}
+use Rattle.ids.specs.Entry.{entryOf, entryTile, entryRefusal, entry-accepted, entry-tile-again, entriesOf}
 use Rattle.ids.specs.Rmid.{levelStart}
 use Rattle.tile.specs.OnMap.{OnMap, tileAt, on-map-accepted}
 use Rattle.tile.specs.declared.Tile.{Tile}
-use Rattle.children.specs.Children.{clockwise, zOrder, gather, descendants, entriesOf, childrenOf}
+use Rattle.children.specs.Children.{clockwise, zOrder, gather, descendants, childrenOf}
 use Rattle.children.specs.Laws.{descend-length}
 use Rattle.children.specs.Members.{once-at, once-map, gather-part}
 use Rattle.children.specs.Queue.{descend-deeper, queue-all, rust-clockwise, rust-z-order}

@@ -11,7 +11,8 @@ ghost use Rattle.constants.specs.Limits.{maxZoom};
 ghost use Rattle.errors.specs.Cases.{left};
 ghost use Rattle.tile.specs.Given.{given};
 ghost use Rattle.tile.specs.OnMap.{OnMap};
-ghost use Rattle.children.specs.Children.{clockwise, zOrder, familyOf, entriesOf, descendants, childrenOf};
+ghost use Rattle.children.specs.Children.{clockwise, zOrder, familyOf, descendants, childrenOf};
+ghost use Rattle.ids.specs.Entry.{entriesOf};
 
 // Each family clockwise: the digits 0, 1, 3, 2. A target zoom of z or less gives the tile itself; None is z + 1.
 pub fn children(x: u32, y: u32, z: u8, zoom: OptionU8, out: &mut [u64]) -> Count

@@ -1,6 +1,9 @@
 -- The number that stands for a tile in a list, by this one name: today the one of `to_id`. Callers use the laws below, and not which number it is.
 use mathlib.Core.Path.{_≡_}
+use mathlib.Core.Bool.{Bool}
+use mathlib.Core.List.{List, map}
 use Prim.Native.Nat.{ℕ}
+use lib.Dec.{eqb}
 use Rattle.errors.specs.Answer.{Answer, answer}
 use Rattle.tile.specs.OnMap.{OnMap, tileAt, noTile, tileRefusal, on-map-accepted}
 use Rattle.tile.specs.declared.Tile.{Tile}
@@ -9,6 +12,10 @@ use Rattle.ids.specs.Laws.{id-again, tile-again, id-accepted, accepted-i
 
 unfoldable pub entryOf : ℕ → ℕ → ℕ → ℕ
 entryOf x y z = idOf x y z
+
+-- tiles as a list holds them
+abbrev pub entriesOf : List Tile → List ℕ
+entriesOf ts = map (λ t. entryOf (t .x) (t .y) (t .z)) ts
 
 -- the entry of what may be no tile: then 0
 abbrev pub entryNumber : ℕ → ℕ → ℕ → ℕ
@@ -19,6 +26,9 @@ entryTile n = idTile n
 
 unfoldable pub entryRefusal : ℕ → ℕ
 entryRefusal n = idRefusal n
+
+abbrev pub isEntry : ℕ → Bool
+isEntry n = eqb (entryRefusal n) 0
 
 abbrev pub entryTileOf : ℕ → Answer Tile
 entryTileOf n = answer (entryRefusal n) noTile (entryTile n)

@@ -38,8 +38,8 @@ pub fn from_id(id: u64) -> TileAnswer
     }
     let place = id / 32;
     let end = bits::wide_pow2(z);
-    let x = place % (2 * end);
-    let y = place / (2 * end);
+    let y = place >> (z + 1);
+    let x = place - (y << (z + 1));
     if x >= end {
         return TileAnswer::Refused(Refusal::NoTile);
     }

@@ -12,7 +12,8 @@ use lib.Pow.{pow-pos}
 use lib.Seq.{take-suc, take-at, drop-at, drop-drop, take-length, set-split}
 use borrow.Author.Tests.{le-leb, lt-leb, le-ltb, leb-true, ltb-true}
 use Rattle.bits.specs.Tests.{and-parts, allOf, all-at}
-use Rattle.children.specs.Children.{gather, entriesOf}
+use Rattle.children.specs.Children.{gather}
+use Rattle.ids.specs.Entry.{entriesOf}
 use Rattle.children.specs.Laws.{gather-append}
 use Rattle.errors.specs.Answer.{answer, written}
 use Rattle.errors.specs.Cases.{countCase, left}

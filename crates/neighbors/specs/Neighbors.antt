@@ -4,7 +4,8 @@ use mathlib.Core.List.{List, [], _∷_, _++_}
 use Prim.Native.Nat.{ℕ, zero, suc, _+_, _-_, _*_, _/_, _%_, _^_}
 use lib.Dec.{leb, eqb}
 use lib.ListN.{length, take, drop}
-use Rattle.children.specs.Children.{gather, entriesOf}
+use Rattle.children.specs.Children.{gather}
+use Rattle.ids.specs.Entry.{entriesOf}
 use Rattle.errors.specs.Answer.{Lent, written, _when_, _else_}
 use Rattle.tile.specs.OnMap.{OnMap, tileAt, tileRefusal}
 use Rattle.tile.specs.declared.Tile.{Tile}

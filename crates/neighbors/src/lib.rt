@@ -11,7 +11,8 @@ ghost use lib.ListN.{length, drop, getD};
 ghost use Rattle.errors.specs.Answer.{answer};
 ghost use Rattle.errors.specs.Cases.{countCase, left};
 ghost use Rattle.tile.specs.OnMap.{OnMap, tileRefusal};
-ghost use Rattle.children.specs.Children.{gather, entriesOf};
+ghost use Rattle.children.specs.Children.{gather};
+ghost use Rattle.ids.specs.Entry.{entriesOf};
 ghost use Rattle.neighbors.specs.Neighbors.{other, siblingsWritten, orderOf, nearOf, spotTiles, neighborsWritten, aroundWritten, SpotOnMap, pasted};
 
 // The places of the square of nine around a tile, numbered column by column from 0; the tile itself is place 4.

@@ -7,13 +7,10 @@ use lib.ListN.{length, getD}
 use Rattle.bits.specs.Tests.{allOf}
 use Rattle.constants.specs.Limits.{maxEntries}
 use Rattle.errors.specs.Answer.{Answer, answer, _when_, _else_}
-use Rattle.ids.specs.Entry.{entryTile, entryRefusal}
+use Rattle.ids.specs.Entry.{entryTile, isEntry}
 use Rattle.tile.specs.declared.Tile.{Tile}
 use Rattle.tile_zbox.specs.Box.{boxAt, noBox}
 use Rattle.tile_zbox.specs.declared.TileZBox.{TileZBox}
-
-abbrev pub isEntry : ℕ → Bool
-isEntry n = eqb (entryRefusal n) 0
 
 abbrev pub ofZoom : ℕ → ℕ → Bool
 ofZoom z n = eqb (entryTile n .z) z

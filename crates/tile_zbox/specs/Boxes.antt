@@ -1,9 +1,10 @@
 -- Boxes as plain numbers, five for each: zoom, minx, maxx, miny, maxy. The sum of their lengths, and the flipped boxes.
-use mathlib.Core.Bool.{Bool, false, not, _||_}
+use mathlib.Core.Bool.{Bool, not, _||_}
 use mathlib.Core.List.{List, [], _∷_, map}
 use Prim.Native.Nat.{ℕ, zero, suc, _+_, _/_, _%_}
 use lib.Dec.{ltb, eqb}
 use lib.ListN.{length, drop, getD}
+use Rattle.bits.specs.Tests.{anyOf}
 use Rattle.constants.specs.Limits.{maxZoom, maxBoxes}
 use Rattle.errors.specs.Answer.{Answer, Lent, answer, written, _when_, _else_}
 use Rattle.tile_zbox.specs.Box.{boxAt, wrongEdges, boxLength, flipped}
@@ -20,10 +21,6 @@ boxesFrom (suc n) list = boxFrom list ∷ boxesFrom n (drop 5 list)
 -- the boxes of all whole fives
 abbrev pub boxesOf : List ℕ → List TileZBox
 boxesOf list = boxesFrom (length list / 5) list
-
-unfoldable pub anyOf : (TileZBox → Bool) → List TileZBox → Bool
-anyOf p [] = false
-anyOf p (b ∷ bs) = p b || anyOf p bs
 
 abbrev pub deep : TileZBox → Bool
 deep b = ltb maxZoom (b .zoom)

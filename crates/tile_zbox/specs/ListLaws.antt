@@ -7,33 +7,20 @@ use native.Mathlib.Nat.{mul-le-mul, mul-le-mul-right, add-zero, max-zero}
 use native.Mathlib.Numerals.{add-one}
 use native.Mathlib.Omega.{arith}
 use lib.Dec.{ltb, eqb}
-use lib.ListN.{length, take, drop, getD, set, drop-of-length-le, length-map, length-drop, length-append}
+use lib.ListN.{length, take, drop, getD, set, length-map, length-drop, length-append}
 use lib.Pow.{pow-mono}
-use lib.Seq.{drop-cons, drop-drop, getD-drop, take-suc, take-add, take-at, drop-at, sets, sets-eq, length-take-le}
+use lib.Seq.{drop-drop, getD-drop, take-suc, take-add, take-at, drop-at, sets, sets-eq, length-take-le}
 use borrow.Author.Tests.{ltb-false, lt-ltb, le-ltb, eqb-true, eqb-false, eq-eqb, ne-eqb}
-use Rattle.bits.specs.Tests.{allOf, all-at}
+use Rattle.bits.specs.Tests.{allOf, all-at, anyOf}
 use Rattle.constants.specs.Limits.{maxZoom, maxEntries, maxBoxes}
 use Rattle.errors.specs.Answer.{_when_, _else_}
 use Rattle.errors.specs.Memory.{front}
-use Rattle.ids.specs.Entry.{entryTile, entryRefusal}
-use Rattle.tile_zbox.specs.Around.{isEntry, ofZoom, firstZoom, listRefusal, least, greatest, columnOf, rowOf, boxAround, grown}
+use Rattle.ids.specs.Entry.{entryTile, entryRefusal, isEntry}
+use Rattle.tile_zbox.specs.Around.{ofZoom, firstZoom, listRefusal, least, greatest, columnOf, rowOf, boxAround, grown}
 use Rattle.tile_zbox.specs.Box.{IsBox, boxAt, wrongEdges, boxLength, flipped}
-use Rattle.tile_zbox.specs.Boxes.{boxFrom, boxesFrom, boxesOf, anyOf, deep, boxesRefusal, sumLengths, numbers, numbersOf, flippedNumbers}
+use Rattle.tile_zbox.specs.Boxes.{boxFrom, boxesFrom, boxesOf, deep, boxesRefusal, sumLengths, numbers, numbersOf, flippedNumbers}
 use Rattle.tile_zbox.specs.Laws.{neither, edges-fine, length-within}
 use Rattle.tile_zbox.specs.declared.TileZBox.{TileZBox}
-
--- whether all entries from place i on are so, one entry on
-pub all-here : (p : ℕ → Bool) (l : List ℕ) (i : ℕ) → i < length l → p (getD l i 0) ≡ true → allOf p (drop i l) ≡ allOf p (drop (i + 1) l)
-unfolding allOf
-all-here p l i h e = rw (add-one i, drop-cons l i 0 h, e)
-
-pub all-bad : (p : ℕ → Bool) (l : List ℕ) (i : ℕ) → i < length l → p (getD l i 0) ≡ false → allOf p (drop i l) ≡ false
-unfolding allOf
-all-bad p l i h e = rw (drop-cons l i 0 h, e)
-
-pub all-past : (p : ℕ → Bool) (l : List ℕ) (i : ℕ) → length l ≤ i → allOf p (drop i l) ≡ true
-unfolding allOf
-all-past p l i h = rw (drop-of-length-le l h)
 
 pub entry-at : (l : List ℕ) (i : ℕ) → allOf isEntry l ≡ true → i < length l → entryRefusal (getD l i 0) ≡ 0
 entry-at l i e h = eqb-true _ _ (all-at isEntry l i e h)

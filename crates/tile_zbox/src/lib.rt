@@ -15,14 +15,14 @@ ghost use mathlib.Core.List.{_++_};
 ghost use Prim.Native.Nat.{_+_, _≤_, _<_, min, max};
 ghost use lib.ListN.{length, drop, getD};
 ghost use lib.Seq.{sets};
-ghost use Rattle.bits.specs.Tests.{allOf};
+ghost use Rattle.bits.specs.Tests.{allOf, anyOf};
 ghost use Rattle.constants.specs.Limits.{maxZoom};
 ghost use Rattle.errors.specs.Cases.{checkNumber, u32Case, u64Case, left};
-ghost use Rattle.ids.specs.Entry.{entryTile, entryRefusal};
+ghost use Rattle.ids.specs.Entry.{entryTile, entryRefusal, isEntry};
 ghost use Rattle.tile.specs.OnMap.{tileAt};
-ghost use Rattle.tile_zbox.specs.Around.{isEntry, ofZoom, listRefusal, grown, boxAround, fromTilesOf};
+ghost use Rattle.tile_zbox.specs.Around.{ofZoom, listRefusal, grown, boxAround, fromTilesOf};
 ghost use Rattle.tile_zbox.specs.Box.{IsBox, wrongRun, wrongEdges, boxRefusal, boxCase, boolCase, extentCase, newOf, fromTileOf, inRun, inBox, containsPlaced, containsOf, flipped, flipOf, zoomedBy, zoomInOf, zoomDepthOf, columnsOf, rowsOf, boxLength, lengthOf, dxOf, dyOf, dxdyOf, dimensionsOf};
-ghost use Rattle.tile_zbox.specs.Boxes.{anyOf, deep, boxFrom, boxesOf, boxesRefusal, sumLengths, boxesLengthOf, numbers, flippedNumbers, boxesFlipOf};
+ghost use Rattle.tile_zbox.specs.Boxes.{deep, boxFrom, boxesOf, boxesRefusal, sumLengths, boxesLengthOf, numbers, flippedNumbers, boxesFlipOf};
 ghost use Rattle.tile_zbox.specs.Cursor.{cursorAt, kthTile, nextCase, stepFrom, nextOf};
 
 pub struct TileZBox {

@@ -3,9 +3,9 @@ use mathlib.Core.Path.{_≡_, sym, ap, _∙_}
 use native.Mathlib.Numerals.{add-one}
 use native.Mathlib.Omega.{arith}
 use lib.ListN.{length, length-set}
-use Rattle.children.specs.Children.{familyOf, descendants, entriesOf}
+use Rattle.children.specs.Children.{familyOf, descendants}
+use Rattle.ids.specs.Entry.{entriesOf, entry-of-tile}
 use Rattle.constants.specs.Limits.{maxZoom-small}
-use Rattle.ids.specs.Entry.{entry-of-tile}
 use Rattle.tile.specs.OnMap.{on-map-small}
 use Rattle.children.specs.Laws.{childEntries, quarters, quarters-none, Quarter, in-quarters, quarters-kept, quarter-written, quarters-done}
 use Rattle.children.specs.Laws.{one-place, quarter-part, turn-small, family-place, child-on-map}

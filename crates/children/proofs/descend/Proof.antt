@@ -15,7 +15,8 @@ use Rattle.errors.specs.Memory.{written-refused, written-short, written-done}
 use Rattle.errors.specs.declared.Refusal.the-variants.{Zoom}
 use Rattle.tile.specs.Given.{given}
 use Rattle.tile.specs.OnMap.{tileRefusal, accepted-on-map}
-use Rattle.children.specs.Children.{familyOf, descendants, entriesOf}
+use Rattle.children.specs.Children.{familyOf, descendants}
+use Rattle.ids.specs.Entry.{entriesOf}
 use Rattle.children.specs.Laws.{child-too-deep, children-length}
 use Rattle.children.proofs.descend.Statement.{statement}
 use Rattle.children.proofs.descend.Tie as tie

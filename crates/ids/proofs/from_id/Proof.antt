@@ -1,12 +1,13 @@
 -- `ids::from_id` meets its contract: each test is one that the tile on the map would pass.
 use mathlib.Core.Path.{_≡_, _∙_}
-use Prim.Native.Nat.{_%_, _^_, _≤_}
+use Prim.Native.Nat.{ℕ, _+_, _-_, _*_, _/_, _%_, _^_, _≤_, _<_}
 use native.Mathlib.Omega.{arith}
-use lib.Pow.{pow-pos, pow-mono}
+use lib.Pow.{pow-mono}
 use borrow.Author.Needs.{needs}
+use Rattle.bits.specs.Powers.{high-part-below, low-part}
 use Rattle.constants.specs.Limits.{maxZoom, maxZoom-small}
 use Rattle.ids.specs.Id.{idTile}
-use Rattle.ids.specs.Laws.{wide-side, id-parts, id-accepted, id-refused}
+use Rattle.ids.specs.Laws.{wide-side, id-accepted, id-refused}
 use Rattle.ids.proofs.from_id.Statement.{statement}
 use Rattle.ids.proofs.from_id.Tie as tie
 
@@ -20,51 +21,67 @@ returns c = rw (id-refused (c .before .args .id) (λ m. omega (arith, m .zoom)))
 wide-pow2-requires : tie.Need-wide-pow2-requires
 wide-pow2-requires c κs = search needs
 
-side : (c : tie.After-wide-pow2) → c .wide-pow2 .result ≡ 2 ^ (c .before .before .args .id % 32)
+abbrev number : tie.After-wide-pow2 → ℕ
+number c = c .before .before .args .id
+
+side : (c : tie.After-wide-pow2) → c .wide-pow2 .result ≡ 2 ^ (number c % 32)
 unfolding maxZoom
 side c = c .wide-pow2 .ensures ∙ wide-side _ (omega arith)
 
 small : (c : tie.After-wide-pow2) → c .wide-pow2 .result ≤ 2 ^ 30
 small c = rw (side c) (pow-mono {j = 30} (omega (arith, maxZoom-small)))
 
-mul-x : tie.Need-mul-x
-mul-x c = omega (arith, small c)
+place-fits : (c : tie.After-wide-pow2) → number c / 32 < 2 ^ 64
+place-fits c = omega arith
 
-rem-x : tie.Need-rem-x
-rem-x c = omega (arith, side c, pow-pos (c .before .before .args .id % 32))
+add-y : tie.Need-add-y
+add-y c = search needs
 
-mul-y : tie.Need-mul-y
-mul-y c = omega (arith, small c)
+cast-y : tie.Need-cast-y
+cast-y c = search needs
 
-div-y : tie.Need-div-y
-div-y c = omega (arith, side c, pow-pos (c .before .before .args .id % 32))
+shr-y : tie.Need-shr-y
+shr-y c = search needs
+
+add-x : tie.Need-add-x
+add-x c = search needs
+
+cast-x : tie.Need-cast-x
+cast-x c = search needs
+
+shl-x : tie.Need-shl-x
+shl-x c = search needs
+
+sub-x : tie.Need-sub-x
+sub-x c = high-part-below (number c / 32) _ 64 (place-fits c)
+
+-- what is left of the place without its row is its column
+column : (c : tie.After-wide-pow2) → number c / 32 - number c / 32 / 2 ^ (number c % 32 + 1) * 2 ^ (number c % 32 + 1) % 2 ^ 64 ≡ number c / 32 % 2 ^ (number c % 32 + 1)
+column c = low-part (number c / 32) (number c % 32 + 1) 64 (place-fits c)
 
 returns-2 : tie.Need-returns-2
-returns-2 c =
-    let n = c .before .before .before .args .id in
-    rw (id-refused n (λ m. omega (arith, rw (side (c .before)) at (c .if2 .taken), rw (id-parts n) at (m .column))))
+unfolding idTile
+returns-2 c = rw (id-refused (number (c .before)) (λ m. omega (arith, m .column, side (c .before), column (c .before))))
 
 returns-3 : tie.Need-returns-3
-returns-3 c =
-    let n = c .before .before .before .before .args .id in
-    rw (id-refused n (λ m. omega (arith, rw (side (c .before .before)) at (c .if3 .taken), rw (id-parts n) at (m .row))))
+unfolding idTile
+returns-3 c = rw (id-refused (number (c .before .before)) (λ m. omega (arith, m .row, side (c .before .before))))
 
-cast-t12 : tie.Need-cast-t12
-cast-t12 c = omega (arith, small (c .before .before))
+cast-t14 : tie.Need-cast-t14
+cast-t14 c = omega (arith, small (c .before .before))
 
-cast-t13 : tie.Need-cast-t13
-cast-t13 c = omega (arith, small (c .before .before))
+cast-t15 : tie.Need-cast-t15
+cast-t15 c = omega (arith, small (c .before .before))
 
 returns-4 : tie.Need-returns-4
-unfolding maxZoom
+unfolding idTile maxZoom
 returns-4 c =
-    let n = c .before .before .before .before .args .id in
-    let e = side (c .before .before) in
-    let z = c .before .before .before .if1 .left in
+    let w = c .before .before in
+    let e = side w in
+    let f = column w in
     rw (
-      id-accepted n (rw (id-parts n) (record { zoom = z; column = rw (← e) (c .before .if2 .left); row = rw (← e) (c .if3 .left) })),
-      id-parts n,
-      e,
+      id-accepted (number w) (record { zoom = c .before .before .before .if1 .left; column = omega arith; row = omega arith }),
+      f,
     )
 
 pub from-id-spec : {M : Type 1} → statement M
@@ -74,12 +91,15 @@ from-id-spec =
     cast-z
     returns
     wide-pow2-requires
-    mul-x
-    rem-x
-    mul-y
-    div-y
+    add-y
+    cast-y
+    shr-y
+    add-x
+    cast-x
+    shl-x
+    sub-x
     returns-2
     returns-3
-    cast-t12
-    cast-t13
+    cast-t14
+    cast-t15
     returns-4)

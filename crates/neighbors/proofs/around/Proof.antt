@@ -5,7 +5,8 @@ use mathlib.Core.List.{List}
 use Prim.Native.Nat.{ℕ, _^_, _≤_}
 use lib.ListN.{length, length-map}
 use borrow.Author.Needs.{needs}
-use Rattle.children.specs.Children.{gather, entriesOf}
+use Rattle.children.specs.Children.{gather}
+use Rattle.ids.specs.Entry.{entriesOf}
 use Rattle.errors.specs.Memory.{written-refused, written-short, written-done}
 use Rattle.tile.specs.OnMap.{OnMap, on-map-accepted, side-found, side-refused}
 use Rattle.tile.specs.declared.Tile.{Tile}

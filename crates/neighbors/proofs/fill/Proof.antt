@@ -5,7 +5,8 @@ use Prim.Native.Nat.{ℕ, _+_, _-_, _≤_}
 use native.Mathlib.Omega.{arith}
 use lib.ListN.{length, drop}
 use borrow.Author.Needs.{needs}
-use Rattle.children.specs.Children.{gather, entriesOf}
+use Rattle.children.specs.Children.{gather}
+use Rattle.ids.specs.Entry.{entriesOf}
 use Rattle.neighbors.specs.Laws.{found, found-all, found-within, count-more, fill-more, fill-length, spot-on-map}
 use Rattle.neighbors.proofs.fill.Statement.{statement}
 use Rattle.neighbors.proofs.fill.Tie as tie

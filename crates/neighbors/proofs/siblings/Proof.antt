@@ -6,11 +6,10 @@ use lib.Dec.{eqb}
 use lib.ListN.{length-set}
 use borrow.Author.Tests.{eq-eqb, ne-eqb}
 use borrow.Author.Needs.{needs}
-use Rattle.children.specs.Children.{entriesOf}
+use Rattle.ids.specs.Entry.{entriesOf, entryNumber, entry-of-tile}
 use Rattle.errors.specs.Answer.{_when_, _else_}
 use Rattle.errors.specs.Laws.{check-fine, check-refused, stands}
 use Rattle.errors.specs.Memory.{written-refused, written-short, written-done}
-use Rattle.ids.specs.Entry.{entryNumber, entry-of-tile}
 use Rattle.tile.specs.OnMap.{tileRefusal, accepted-on-map}
 use Rattle.errors.specs.declared.Refusal.the-variants.{NoRelative}
 use Rattle.neighbors.specs.Neighbors.{siblingsOf}

@@ -5,9 +5,8 @@ use native.Mathlib.Omega.{arith}
 use lib.ListN.{length, drop}
 use borrow.Author.Tests.{not-true, not-false}
 use borrow.Author.Needs.{needs}
-use Rattle.bits.specs.Tests.{allOf}
-use Rattle.tile_zbox.specs.Around.{isEntry}
-use Rattle.tile_zbox.specs.ListLaws.{all-here, all-bad, all-past}
+use Rattle.bits.specs.Tests.{allOf, all-here, all-bad, all-past}
+use Rattle.ids.specs.Entry.{isEntry}
 use Rattle.tile_zbox.proofs.all_entries.Statement.{statement}
 use Rattle.tile_zbox.proofs.all_entries.Tie as tie
 

@@ -5,10 +5,10 @@ use native.Mathlib.Omega.{arith}
 use lib.ListN.{length, drop}
 use borrow.Author.Tests.{eq-eqb, ne-eqb}
 use borrow.Author.Needs.{needs}
-use Rattle.bits.specs.Tests.{allOf}
+use Rattle.bits.specs.Tests.{allOf, all-here, all-bad, all-past}
 use Rattle.tile.specs.declared.Tile.{Tile}
 use Rattle.tile_zbox.specs.Around.{ofZoom}
-use Rattle.tile_zbox.specs.ListLaws.{all-here, all-bad, all-past, entry-at}
+use Rattle.tile_zbox.specs.ListLaws.{entry-at}
 use Rattle.tile_zbox.proofs.all_of_zoom.Statement.{statement}
 use Rattle.tile_zbox.proofs.all_of_zoom.Tie as tie
 

@@ -5,8 +5,9 @@ use native.Mathlib.Omega.{arith}
 use lib.ListN.{length, drop, getD}
 use borrow.Author.Tests.{lt-ltb, le-ltb}
 use borrow.Author.Needs.{needs}
+use Rattle.bits.specs.Tests.{anyOf}
 use Rattle.constants.specs.Limits.{maxZoom}
-use Rattle.tile_zbox.specs.Boxes.{anyOf, deep, boxFrom, boxesFrom, boxesOf}
+use Rattle.tile_zbox.specs.Boxes.{deep, boxFrom, boxesFrom, boxesOf}
 use Rattle.tile_zbox.specs.ListLaws.{boxes-step, boxes-end, any-here, any-later, any-none, first-zoom}
 use Rattle.tile_zbox.proofs.any_deep.Statement.{statement}
 use Rattle.tile_zbox.proofs.any_deep.Tie as tie

@@ -5,8 +5,9 @@ use Prim.Native.Nat.{_+_, _*_, _≤_}
 use native.Mathlib.Omega.{arith}
 use lib.ListN.{length, drop}
 use borrow.Author.Needs.{needs}
+use Rattle.bits.specs.Tests.{anyOf}
 use Rattle.tile_zbox.specs.Box.{wrongEdges}
-use Rattle.tile_zbox.specs.Boxes.{anyOf, deep, boxFrom, boxesFrom, boxesOf}
+use Rattle.tile_zbox.specs.Boxes.{deep, boxFrom, boxesFrom, boxesOf}
 use Rattle.tile_zbox.specs.ListLaws.{boxes-step, boxes-end, any-here, any-later, any-none, none-of, zoom-at, first-zoom}
 use Rattle.tile_zbox.proofs.any_wrong.Statement.{statement}
 use Rattle.tile_zbox.proofs.any_wrong.Tie as tie

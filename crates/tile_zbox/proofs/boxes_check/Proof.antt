@@ -3,8 +3,9 @@ use mathlib.Core.Path.{_≡_, sym, _∙_}
 use mathlib.Core.Bool.{false}
 use native.Mathlib.Omega.{arith}
 use borrow.Author.Needs.{needs}
+use Rattle.bits.specs.Tests.{anyOf}
 use Rattle.constants.specs.Limits.{maxBoxes}
-use Rattle.tile_zbox.specs.Boxes.{anyOf, deep, boxesOf}
+use Rattle.tile_zbox.specs.Boxes.{deep, boxesOf}
 use Rattle.tile_zbox.specs.ListLaws.{boxes-deep, boxes-many, boxes-over, boxes-wrong, all-boxes-accepted}
 use Rattle.tile_zbox.proofs.boxes_check.Statement.{statement}
 use Rattle.tile_zbox.proofs.boxes_check.Tie as tie

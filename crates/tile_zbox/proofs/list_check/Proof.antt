@@ -6,8 +6,9 @@ use borrow.Author.Tests.{not-true, not-false}
 use borrow.Author.Needs.{needs}
 use Rattle.bits.specs.Tests.{allOf}
 use Rattle.constants.specs.Limits.{maxEntries}
+use Rattle.ids.specs.Entry.{isEntry}
 use Rattle.tile.specs.declared.Tile.{Tile}
-use Rattle.tile_zbox.specs.Around.{isEntry, ofZoom, firstZoom}
+use Rattle.tile_zbox.specs.Around.{ofZoom, firstZoom}
 use Rattle.tile_zbox.specs.ListLaws.{entry-at, list-long, list-stranger, list-empty, list-mixed, one-zoom-accepted}
 use Rattle.tile_zbox.proofs.list_check.Statement.{statement}
 use Rattle.tile_zbox.proofs.list_check.Tie as tie
