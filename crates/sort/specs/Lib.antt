@@ -1,0 +1,3 @@
+pub mod Sort
+pub mod Laws
+pub mod Pass
