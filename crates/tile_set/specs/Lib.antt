@@ -1,0 +1,13 @@
+pub mod Holds
+pub mod InOrder
+pub mod Merged
+pub mod Rust
+pub mod RustMerge
+pub mod RustSets
+pub mod RustSimplify
+pub mod RustSimplifyV1
+pub mod RustTheorems
+pub mod Set
+pub mod Simplified
+pub mod Theorems
+pub mod Uncovered

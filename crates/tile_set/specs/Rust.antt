@@ -1,0 +1,131 @@
+-- The Rust's `merge`, `simplify_v1` and `simplify` (merge.rs) as functions on values. A hash set is a test of tiles. A loop over a hash set or
+-- a hash map, whose order is not fixed, walks a list, and `RustTheorems` speaks of every list that the loop can follow.
+use mathlib.Core.Path.{_≡_}
+use mathlib.Core.Logic.{_↔_}
+use mathlib.Core.Bool.{Bool, true, false, cond, not, _&&_, _||_}
+use mathlib.Core.List.{List, [], _∷_, foldl, List·Memᴰ}
+use Prim.Native.Nat.{ℕ, zero, suc, _-_, _≤_}
+use lib.Dec.{eqb, leb, ltb}
+use lib.ListN.{length}
+use Rattle.tile.specs.declared.Tile.{Tile}
+use Rattle.tile_set.specs.Merged.{Within}
+use Rattle.tile_set.specs.Set.{anyBelow, ancestor, parentTile, child, whole}
+
+abbrev pub sameTile : Tile → Tile → Bool
+sameTile s t = eqb (s .x) (t .x) && (eqb (s .y) (t .y) && eqb (s .z) (t .z))
+
+abbrev pub empty : Tile → Bool
+empty t = false
+
+unfoldable pub insert : Tile → (Tile → Bool) → Tile → Bool
+insert a S t = sameTile t a || S t
+
+unfoldable pub remove : Tile → (Tile → Bool) → Tile → Bool
+remove a S t = not (sameTile t a) && S t
+
+abbrev pub extend : List Tile → (Tile → Bool) → Tile → Bool
+extend tiles S = foldl (λ R t. insert t R) S tiles
+
+abbrev pub removeAll : List Tile → (Tile → Bool) → Tile → Bool
+removeAll tiles S = foldl (λ R t. remove t R) S tiles
+
+-- `merge` after its first loop: `upwards_merge`, with no entry where the group is empty, and `current_tileset`
+pub record Filed : Type 0 where
+  pub upwards : Tile → List Tile
+  pub current : Tile → Bool
+
+-- a tile of zoom > m has a parent; it is new in its group, since the loop meets each tile once
+abbrev pub file : ℕ → Filed → Tile → Filed
+file m s t =
+    cond (ltb m (t .z))
+    (record { upwards = λ p. cond (sameTile p (parentTile t)) (t ∷ s .upwards p) (s .upwards p); current = s .current })
+    (record { upwards = s .upwards; current = insert t (s .current) })
+
+unfoldable pub rustFiled : ℕ → List Tile → Filed
+rustFiled m tiles = foldl (file m) (record { upwards = λ p. []; current = empty }) tiles
+
+-- what `merge` gives back
+pub record Merging : Type 0 where
+  pub current : Tile → Bool
+  pub changed : Bool
+
+abbrev pub mergeGroup : ℕ → (Tile → List Tile) → Merging → Tile → Merging
+mergeGroup m upwards s supertile =
+    cond (eqb (length (upwards supertile)) 4 && leb m (supertile .z))
+    (record { current = insert supertile (s .current); changed = true })
+    (record { current = extend (upwards supertile) (s .current); changed = s .changed })
+
+unfoldable pub rustMerge : ℕ → List Tile → List Tile → Merging
+rustMerge m tiles supertiles =
+    let s = rustFiled m tiles in
+    foldl (mergeGroup m (s .upwards)) (record { current = s .current; changed = false }) supertiles
+
+-- the first loop of `simplify_v1`; the i of its inner loop run from z - 1 down to m, and `parent` of i is the ancestor of zoom z - 1 - i
+abbrev pub keepRoot : ℕ → (Tile → Bool) → Tile → Tile → Bool
+keepRoot m roots t =
+    cond (leb (t .z) m) (insert t roots)
+    (cond (anyBelow (t .z) (λ i. leb m i && roots (ancestor t (t .z - 1 - i)))) roots (insert t roots))
+
+unfoldable pub rustRoots : ℕ → List Tile → Tile → Bool
+rustRoots m tiles = foldl (keepRoot m) empty tiles
+
+-- the orders in which the calls of `merge` walk: for each turn of the loop, by the turns that may follow it, and the set that it is given
+pub record Orders : Type 0 where
+  pub tiles : ℕ → (Tile → Bool) → List Tile
+  pub supertiles : ℕ → (Tile → Bool) → List Tile
+
+-- `while is_merging`, with a bound on its turns: where the bound ends the loop, `changed` is still true
+unfoldable pub rustWhile : ℕ → ℕ → Orders → (Tile → Bool) → Merging
+rustWhile zero m o roots = record { current = roots; changed = true }
+rustWhile (suc turns) m o roots =
+    let s = rustMerge m (o .tiles turns roots) (o .supertiles turns roots) in
+    let more = rustWhile turns m o (s .current) in
+    cond (s .changed) more s
+
+abbrev pub rustSimplifyV1 : ℕ → ℕ → Orders → List Tile → Merging
+rustSimplifyV1 turns m o tiles = rustWhile turns m o (rustRoots m tiles)
+
+-- `iter_parents` gives the ancestors from zoom z - 1 up to the root
+abbrev pub hasTileOrParent : (Tile → Bool) → Tile → Bool
+hasTileOrParent coverage t = coverage t || anyBelow (t .z) (λ s. coverage (ancestor t s))
+
+abbrev pub children1 : Tile → List Tile
+children1 p = child p 0 0 ∷ child p 1 0 ∷ child p 0 1 ∷ child p 1 1 ∷ []
+
+-- `attempt_merge` from the ancestor of zoom n - 1 on, with n the second argument; `whole`: all of its `children1` are there
+unfoldable pub attemptMerge : ℕ → ℕ → Tile → (Tile → Bool) → Tile → Bool
+attemptMerge m zero t coverage = coverage
+attemptMerge m (suc s) t coverage =
+    let p = ancestor t s in
+    let more = attemptMerge m s t (insert p (removeAll (children1 p) coverage)) in
+    cond (ltb (p .z) m) coverage (cond (whole coverage p) more coverage)
+
+abbrev pub put : ℕ → (Tile → Bool) → Tile → Tile → Bool
+put m coverage t = cond (hasTileOrParent coverage t) coverage (attemptMerge m (t .z) t (insert t coverage))
+
+unfoldable pub rustSimplify : ℕ → List Tile → Tile → Bool
+rustSimplify m tiles = foldl (put m) empty tiles
+
+-- each entry stands once
+abbrev pub Once : List Tile → Type 0
+Once [] = Unit {0}
+Once (a ∷ l) = (List·Memᴰ a l → ⊥) × Once l
+
+-- an order in which a loop over the set can go
+pub record Walk (S : Tile → Bool) (tiles : List Tile) : Type 0 where
+  pub just : (t : Tile) → List·Memᴰ t tiles ↔ (S t ≡ true)
+  pub once : Once tiles
+
+-- an order in which a loop over the map of `merge` can go: it meets the tiles that have a group
+abbrev pub Keys : ℕ → List Tile → List Tile → Type 0
+Keys m tiles supertiles = (p : Tile) → List·Memᴰ p supertiles ↔ ((t : Tile) × List·Memᴰ t (rustFiled m tiles .upwards p))
+
+-- an order that `sort_by_key(|t| t.z())` can give
+abbrev pub ByZoom : List Tile → Type 0
+ByZoom [] = Unit {0}
+ByZoom (a ∷ l) = ((t : Tile) → List·Memᴰ t l → a .z ≤ t .z) × ByZoom l
+
+-- the orders of every turn are such, for whatever set of tiles of zoom 0 to D it is given
+pub record Fair (D m : ℕ) (o : Orders) : Type 0 where
+  pub walks : (turn : ℕ) (S : Tile → Bool) → Within D S → Walk S (o .tiles turn S)
+  pub keys : (turn : ℕ) (S : Tile → Bool) → Within D S → Keys m (o .tiles turn S) (o .supertiles turn S)

@@ -1,0 +1,1 @@
+// Sets of tiles: only definitions and theorems, in specs/. There is no code.
