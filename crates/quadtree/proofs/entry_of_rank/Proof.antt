@@ -1,0 +1,99 @@
+-- `quadtree::entry_of_rank` meets its contract: a rank taken apart is its tile.
+use mathlib.Core.Path.{_≡_, ap, sym, _∙_}
+use Prim.Native.Nat.{ℕ, _+_, _-_, _*_, _/_, _%_, _^_, _≤_, _<_}
+use native.Mathlib.Omega.{arith}
+use borrow.Author.Needs.{needs}
+use Rattle.bits.specs.Powers.{pow-within, high-part-below, low-part}
+use Rattle.constants.specs.Limits.{maxZoom-small}
+use Rattle.ids.specs.Entry.{entryNumber, entry-of-tile}
+use Rattle.tile.specs.OnMap.{on-map-small}
+use Rattle.tile.specs.declared.Tile.{Tile}
+use Rattle.quadtree.specs.Laws.{rank-small, rank-taken, rank-tile}
+use Rattle.quadtree.specs.Lists.{tileEntry, by-tile}
+use Rattle.quadtree.specs.Numbers.{rankTile}
+use Rattle.quadtree.proofs.entry_of_rank.Statement.{statement}
+use Rattle.quadtree.proofs.entry_of_rank.Tie as tie
+
+zoom-in-requires : tie.Need-zoom-in-requires
+zoom-in-requires c κs = by-tile (λ (r : ℕ). 0 < r) (c .pre) (λ t m. rank-small t m .0)
+
+abbrev tile : tie.After-zoom-in → Tile
+tile c = c .before .pre .tile
+
+taken : (c : tie.After-zoom-in)
+    → (c .zoom-in .result ≡ tile c .z) × (c .before .args .r / 2 ^ c .zoom-in .result ≡ 2 ^ tile c .z + tile c .x) × (c .before .args .r % 2 ^ c .zoom-in .result ≡ tile c .y)
+taken c = rank-taken (c .before .pre .tile) (c .before .pre .on-map) (c .before .pre .number) (c .zoom-in .ensures)
+
+shallow : (c : tie.After-zoom-in) → c .zoom-in .result ≤ 30
+shallow c = omega (arith, taken c .0, c .before .pre .on-map .zoom, maxZoom-small)
+
+cast-column : tie.Need-cast-column
+cast-column c = search needs
+
+shr-column : tie.Need-shr-column
+shr-column c = omega (arith, shallow c)
+
+cast-entry : tie.Need-cast-entry
+cast-entry c = search needs
+
+shl-entry : tie.Need-shl-entry
+shl-entry c = omega (arith, shallow c)
+
+one : (c : tie.After-zoom-in) → 1 * 2 ^ c .zoom-in .result % 2 ^ 64 ≡ 2 ^ tile c .z
+one c =
+    let e : 1 * 2 ^ c .zoom-in .result ≡ 2 ^ c .zoom-in .result = omega arith in
+    ap (λ (n : ℕ). n % 2 ^ 64) e ∙ (pow-within (c .zoom-in .result) 64 (omega (arith, shallow c)) ∙ ap (λ (z : ℕ). 2 ^ z) (taken c .0))
+
+column : (c : tie.After-zoom-in) → c .before .args .r / 2 ^ c .zoom-in .result - 1 * 2 ^ c .zoom-in .result % 2 ^ 64 ≡ tile c .x
+column c = omega (arith, one c, taken c .1)
+
+row : (c : tie.After-zoom-in) → c .before .args .r - c .before .args .r / 2 ^ c .zoom-in .result * 2 ^ c .zoom-in .result % 2 ^ 64 ≡ tile c .y
+row c = low-part (c .before .args .r) (c .zoom-in .result) 64 (c .before .fits .r .fits) ∙ taken c .2
+
+sub-entry : tie.Need-sub-entry
+sub-entry c = omega (arith, one c, taken c .1)
+
+cast-entry-2 : tie.Need-cast-entry-2
+cast-entry-2 c = omega (arith, column c, on-map-small (c .before .pre .on-map) .0)
+
+cast-entry-3 : tie.Need-cast-entry-3
+cast-entry-3 c = search needs
+
+shl-entry-2 : tie.Need-shl-entry-2
+shl-entry-2 c = omega (arith, shallow c)
+
+sub-entry-2 : tie.Need-sub-entry-2
+sub-entry-2 c = high-part-below (c .before .args .r) (c .zoom-in .result) 64 (c .before .fits .r .fits)
+
+cast-entry-4 : tie.Need-cast-entry-4
+cast-entry-4 c = omega (arith, row c, on-map-small (c .before .pre .on-map) .1)
+
+entry-requires : tie.Need-entry-requires
+entry-requires c κs = search needs
+
+same-entry : {x y z a b k : ℕ} → a ≡ x → b ≡ y → k ≡ z → entryNumber a b k ≡ entryNumber x y z
+same-entry e f g = rw (e, f, g)
+
+returns : tie.Need-returns
+returns c =
+    let s = c .before .before in
+    let t : rankTile (s .args .r) ≡ s .pre .tile = ap rankTile (sym (s .pre .number)) ∙ rank-tile (s .pre .tile) (s .pre .on-map) in
+    c .entry .ensures ∙ (same-entry (column (c .before)) (row (c .before)) (taken (c .before) .0) ∙ (entry-of-tile (s .pre .on-map) ∙ ap tileEntry (sym t)))
+
+pub entry-of-rank-spec : {M : Type 1} → statement M
+entry-of-rank-spec =
+    tie.close
+    (tie.spec
+    zoom-in-requires
+    cast-column
+    shr-column
+    cast-entry
+    shl-entry
+    sub-entry
+    cast-entry-2
+    cast-entry-3
+    shl-entry-2
+    sub-entry-2
+    cast-entry-4
+    entry-requires
+    returns)

@@ -1,0 +1,51 @@
+-- `quadtree::place` meets its contract: the shift loses no bit.
+use mathlib.Core.Path.{sym, ap, _∙_}
+use Prim.Native.Nat.{ℕ, _%_, _^_}
+use native.Mathlib.Nat.{mod-eq-of-lt}
+use native.Mathlib.Omega.{arith}
+use borrow.Author.Needs.{needs}
+use Rattle.constants.specs.Limits.{maxZoom}
+use Rattle.quadtree.specs.Laws.{quad-small, place-small, place-shift}
+use Rattle.quadtree.proofs.place.Statement.{statement}
+use Rattle.quadtree.proofs.place.Tie as tie
+
+quad-requires : tie.Need-quad-requires
+quad-requires c κs = search needs
+
+mul-result : tie.Need-mul-result
+mul-result c = omega (arith, quad-small (c .before .args .t) (c .before .pre))
+
+add-result : tie.Need-add-result
+add-result c = omega (arith, quad-small (c .before .args .t) (c .before .pre))
+
+sub-result : tie.Need-sub-result
+unfolding maxZoom
+sub-result c = c .before .before .pre .zoom
+
+mul-result-2 : tie.Need-mul-result-2
+mul-result-2 c = search needs
+
+cast-result : tie.Need-cast-result
+cast-result c = search needs
+
+shl-result : tie.Need-shl-result
+shl-result c = search needs
+
+returns : tie.Need-returns
+unfolding maxZoom
+returns c =
+    let t = c .before .before .args .t in
+    rw (c .before .quad .ensures) (ap (λ (n : ℕ). n % 2 ^ 64) (sym (place-shift t)) ∙ mod-eq-of-lt (omega (arith, place-small t (c .before .before .pre))))
+
+pub place-spec : {M : Type 1} → statement M
+place-spec =
+    tie.close
+    (tie.spec
+    quad-requires
+    mul-result
+    add-result
+    sub-result
+    mul-result-2
+    cast-result
+    shl-result
+    returns)

@@ -1,0 +1,55 @@
+-- `quadtree::rank_of_quad` meets its contract: the column behind its leading 1, then the row.
+use mathlib.Core.Path.{_≡_, _∙_}
+use Prim.Native.Nat.{ℕ, _+_, _*_, _/_, _%_, _^_, _<_}
+use native.Mathlib.Omega.{arith}
+use borrow.Author.Needs.{needs}
+use Rattle.quadtree.specs.Laws.{quad-small, quad-tile, rank-small, quad-rank}
+use Rattle.quadtree.specs.Lists.{by-tile}
+use Rattle.quadtree.specs.Numbers.{zoomIn, evenBits, quadTile, rankOf}
+use Rattle.quadtree.proofs.rank_of_quad.Statement.{statement}
+use Rattle.quadtree.proofs.rank_of_quad.Tie as tie
+
+gather-requires : tie.Need-gather-requires
+gather-requires c κs = search needs
+
+zoom-in-requires : tie.Need-zoom-in-requires
+zoom-in-requires c κs = by-tile (λ (q : ℕ). 0 < q) (c .before .pre) (λ t m. quad-small t m .0)
+
+cast-result : tie.Need-cast-result
+cast-result c = search needs
+
+shl-result : tie.Need-shl-result
+unfolding zoomIn
+shl-result c = omega (arith, c .zoom-in .ensures)
+
+gather-requires-2 : tie.Need-gather-requires-2
+gather-requires-2 c κs = search needs
+
+abbrev summed : ℕ → ℕ
+summed q = evenBits 32 q * 2 ^ zoomIn q % 2 ^ 64 + evenBits 32 (q / 2)
+
+as-summed : (c : tie.After-gather2)
+    → c .before .before .gather .result * 2 ^ c .before .zoom-in .result % 2 ^ 64 + c .gather2 .result ≡ summed (c .before .before .before .args .q)
+as-summed c = rw (c .before .before .gather .ensures, c .before .zoom-in .ensures, c .gather2 .ensures)
+
+add-result : tie.Need-add-result
+add-result c =
+    let l = by-tile (λ (q : ℕ). summed q < 2 ^ 61) (c .before .before .before .pre) (λ t m. rw (quad-rank t m) (rank-small t m .1)) in
+    omega (arith, as-summed c)
+
+returns : tie.Need-returns
+returns c =
+    let e = by-tile (λ (q : ℕ). summed q ≡ rankOf (quadTile q)) (c .before .before .before .pre) (λ t m. rw (quad-tile t m) (quad-rank t m)) in
+    as-summed c ∙ e
+
+pub rank-of-quad-spec : {M : Type 1} → statement M
+rank-of-quad-spec =
+    tie.close
+    (tie.spec
+    gather-requires
+    zoom-in-requires
+    cast-result
+    shl-result
+    gather-requires-2
+    add-result
+    returns)

@@ -1,0 +1,4 @@
+pub mod Numbers
+pub mod Laws
+pub mod Digits
+pub mod Lists
