@@ -1,0 +1,4 @@
+pub mod Tops
+pub mod Laws
+pub mod Walk
+pub mod Simplify

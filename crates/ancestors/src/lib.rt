@@ -1,0 +1,93 @@
+// `simplify_v1`: a tile goes if the list holds an ancestor of it far enough above, and then families are joined until nothing changes.
+ghost use mathlib.Core.Path.{_≡_};
+ghost use Prim.Native.Nat.{_+_, _/_, _^_, _<_};
+ghost use lib.ListN.{length};
+ghost use Rattle.constants.specs.Limits.{maxZoom};
+ghost use Rattle.quadtree.specs.Lists.{TileNumbers};
+ghost use Rattle.quadtree.specs.Numbers.{placeOf, placeTile};
+ghost use Rattle.settle.specs.Places.{IsPlace, endOf};
+ghost use Rattle.sort.specs.Sort.{By};
+ghost use Rattle.tile_list.specs.Finish.{Listed};
+ghost use Rattle.tile_list.specs.List.{named};
+ghost use Rattle.tile_set.specs.Set.{simplifiedV1};
+ghost use Rattle.ancestors.specs.Tops.{Tops, Ahead, First, Uncovers};
+
+// No zoom is above it, so settling at this minimum zoom joins nothing and leaves the topmost tiles.
+const NO_ZOOM: u8 = 255;
+
+// From the places of a set's tiles to the simplified set as a list.
+pub fn simplified_v1(places: &mut [u64], out: &mut [u64], m: u8) -> usize
+    requires { ⌜ TileNumbers placeOf (now places) × (length (now places) ≡ length (now out)) ⌝ }
+    ensures { λ r. ⌜ Listed (simplifiedV1 maxZoom m (named placeTile (now (places .entry)))) (now (out .exit)) r ⌝ }
+{
+    let left = uncovered_quads(places, out, m);
+    let count = families::passes(out, left, places, m);
+    tile_list::finish(out, count, places, false)
+}
+
+// The quads of the tiles that stay, at the front of `out`. The answer says how many there are.
+fn uncovered_quads(places: &mut [u64], out: &mut [u64], m: u8) -> usize
+    requires { ⌜ TileNumbers placeOf (now places) × (length (now places) ≡ length (now out)) ⌝ }
+    ensures { λ r. ⌜ Uncovers m (now (places .entry)) (now (out .exit)) r ⌝ }
+{
+    sort::sort_into(places, out);
+    sort::copy(out, places);
+    let tops = settle::settle(places, NO_ZOOM);
+    uncovered(out, &places[..tops], m)
+}
+
+// The tops are the topmost tiles. A tile has an ancestor of zoom s or less in the list exactly when the top that holds it has such a zoom.
+fn uncovered(places: &mut [u64], tops: &[u64], m: u8) -> usize
+    requires { ⌜ TileNumbers placeOf (now places) × By (λ n. n) (now places) ⌝ }
+    requires { ⌜ Tops (now places) (now tops) ⌝ }
+    ensures { λ r. ⌜ Uncovers m (now (places .entry)) (now (places .exit)) r ⌝ }
+{
+    let mut count = 0;
+    let mut top = 0;
+    let mut i = 0;
+    'tiles: while i < places.len() {
+        let k = places[i];
+        i += 1;
+        top = top_of(tops, top, k);
+        let highest = settle::quad(tops[top]);
+        let quad = settle::quad(k);
+        let mut steps = settle::zoom(k);
+        while steps > m {
+            steps -= 1;
+            if ancestor(quad, steps) == highest {
+                continue 'tiles;
+            }
+        }
+        places[count] = quad;
+        count += 1;
+    }
+    count
+}
+
+// The first of the tops from `from` on whose run ends behind k.
+fn top_of(tops: &[u64], from: usize, k: u64) -> usize
+    requires { ⌜ TileNumbers placeOf (now tops) × Ahead (now tops) from k ⌝ }
+    ensures { λ r. ⌜ First (now (tops .entry)) from k r ⌝ }
+{
+    let mut top = from;
+    while end(tops[top]) <= k {
+        top += 1;
+    }
+    top
+}
+
+// Where the run of a tile ends.
+fn end(k: u64) -> u64
+    requires { ⌜ IsPlace k ⌝ }
+    ensures { λ r. ⌜ r ≡ endOf (placeTile k) ⌝ }
+{
+    k + settle::low_bit(k)
+}
+
+// The quad of the ancestor at `steps`, as `parent` counts them: 0 is the parent.
+fn ancestor(quad: u64, steps: u8) -> u64
+    requires { ⌜ steps < 31 ⌝ }
+    ensures { λ r. ⌜ r ≡ quad / 4 ^ (steps + 1) ⌝ }
+{
+    quad >> (2 * (steps + 1))
+}

@@ -1,0 +1,68 @@
+-- `pass` leaves what the pure pass over the quads, each once, leaves.
+use mathlib.Core.Path.{_≡_, sym, ap, _∙_}
+use mathlib.Core.List.{_++_}
+use Prim.Native.Nat.{ℕ}
+use native.Mathlib.Omega.{arith}
+use lib.ListN.{length, take, drop, length-append}
+use lib.Seq.{take-append-le, length-take-le}
+use Rattle.families.specs.Join.{firstQuad, joinOf}
+use Rattle.families.specs.Once.{passed}
+use borrow.Author.Needs.{needs}
+use Rattle.families.proofs.pass.Statement.{statement}
+use Rattle.families.proofs.pass.Tie as tie
+use Rattle.families.proofs.pass.Reads as reads
+use Rattle.families.proofs.pass.Lts as lts
+use Rattle.families.proofs.first_quad.Reads as first-quad-reads
+use Rattle.families.proofs.join.Reads as join-reads
+use Rattle.sort.proofs.once.Reads as once-reads
+
+-- src/lib.rt:23:9
+once-requires : tie.Need-once-requires
+once-requires c κs = search needs
+
+-- src/lib.rt:24:22
+slice-relend-prefix-join : tie.Need-slice-relend-prefix-join
+slice-relend-prefix-join c = search needs
+
+-- src/lib.rt:24:22
+slice-aggregate-join : tie.Need-slice-aggregate-join
+slice-aggregate-join c = let o = c .before .before .before .once .ensures in sym (length-take-le _ (c .before .before .before .once .last .0) (o .within))
+
+-- src/lib.rt:24:42
+first-quad-requires : tie.Need-first-quad-requires
+first-quad-requires c κs = search needs
+
+-- src/lib.rt:24:9
+join-requires : tie.Need-join-requires
+join-requires c κs = search needs
+
+-- src/lib.rt:19:1
+same-length : tie.Need-same-length
+same-length c = search needs
+
+-- src/lib.rt:19:1
+returns : tie.Need-returns
+returns c =
+    let start = c .before .before .before .before .before .before .before .before .before .before in
+    let O = c .before .before .before .before .before .before .before .once in
+    let J = c .before .before .join in
+    let F = c .before .before .before .first-quad in
+    let e = O .ensures in
+    let part = J .last .0 in
+    let rest = drop (O .result) (O .last .0) in
+    passed (start .args .m) (start .args .quads .now) (start .pre .0) (start .pre .1) (part ++ rest) (O .result) (J .result)
+    (sym (length-take-le (O .result) (O .last .0) (e .within)) ∙ ap length (e .front))
+    (rw (length-append part rest) (omega (arith, J .ensures .0)))
+    (take-append-le (J .result) part rest (J .ensures .0) ∙ (J .ensures .1 ∙ (ap (λ (n : ℕ). joinOf n (take (O .result) (O .last .0))) (F .ensures) ∙ ap (joinOf (firstQuad (start .args .m))) (e .front))))
+
+pub pass-spec : {M : Type 1} → statement M
+pass-spec =
+    tie.close
+    (tie.spec
+    once-requires
+    slice-relend-prefix-join
+    slice-aggregate-join
+    first-quad-requires
+    join-requires
+    same-length
+    returns)

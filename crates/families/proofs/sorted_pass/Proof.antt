@@ -1,0 +1,37 @@
+-- `sorted_pass` sorts, and passes.
+use Rattle.families.specs.Pass.{sort-passed}
+use Rattle.quadtree.specs.Numbers.{quadOf}
+use Rattle.sort.specs.Laws.{sorted-by}
+use Rattle.tile_list.specs.Laws.{sort-numbers}
+use borrow.Author.Needs.{needs}
+use Rattle.families.proofs.sorted_pass.Statement.{statement}
+use Rattle.families.proofs.sorted_pass.Tie as tie
+use Rattle.families.proofs.sorted_pass.Reads as reads
+use Rattle.families.proofs.sorted_pass.Lts as lts
+use Rattle.families.proofs.pass.Reads as pass-reads
+use Rattle.sort.proofs.sort.Reads as sort-reads
+
+-- src/lib.rt:55:5
+sort-requires : tie.Need-sort-requires
+sort-requires c κs = search needs
+
+-- src/lib.rt:56:5
+pass-requires : tie.Need-pass-requires
+pass-requires c κs =
+    let l = c .before .before .before .before .before .before .before .before .before .before .args .quads .now in rw (c .before .before .before .before .before .sort .ensures) (sort-numbers quadOf l (c .before .before .before .before .before .before .before .before .before .before .pre .0), sorted-by l)
+
+-- src/lib.rt:51:1
+same-length : tie.Need-same-length
+same-length c = search needs
+
+-- src/lib.rt:51:1
+same-length-2 : tie.Need-same-length-2
+same-length-2 c = search needs
+
+-- src/lib.rt:51:1
+returns : tie.Need-returns
+returns c = sort-passed (c .before .before .before .before .before .before .before .before .before .before .before .before .before .args .quads .now) (rw (c .before .before .before .before .before .before .before .before .sort .ensures) at (c .before .before .pass .ensures))
+
+pub sorted-pass-spec : {M : Type 1} → statement M
+sorted-pass-spec =
+    tie.close (tie.spec sort-requires pass-requires same-length same-length-2 returns)

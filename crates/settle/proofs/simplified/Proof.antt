@@ -1,0 +1,45 @@
+-- `simplified`: places in order, one pass, and the set as a list.
+use Rattle.quadtree.specs.Numbers.{placeOf}
+use Rattle.settle.specs.Simplify.{settled-listed}
+use Rattle.sort.specs.Laws.{sorted-by}
+use Rattle.tile_list.specs.Laws.{sort-numbers}
+use borrow.Author.Needs.{needs}
+use Rattle.settle.proofs.simplified.Statement.{statement}
+use Rattle.settle.proofs.simplified.Tie as tie
+use Rattle.settle.proofs.simplified.Reads as reads
+use Rattle.settle.proofs.simplified.Lts as lts
+use Rattle.settle.proofs.settle.Reads as settle-reads
+use Rattle.sort.proofs.sort_into.Reads as sort-into-reads
+use Rattle.tile_list.proofs.finish.Reads as finish-reads
+
+-- src/lib.rt:24:5
+sort-into-requires : tie.Need-sort-into-requires
+sort-into-requires c κs = search needs
+
+-- src/lib.rt:25:9
+settle-requires : tie.Need-settle-requires
+settle-requires c κs =
+    let l = c .before .before .before .before .before .before .before .before .before .before .args .places .now in rw (c .before .before .before .before .before .sort-into .ensures) (sort-numbers placeOf l (c .before .before .before .before .before .before .before .before .before .before .pre .0), sorted-by l)
+
+-- src/lib.rt:26:5
+finish-requires : tie.Need-finish-requires
+finish-requires c κs = search needs
+
+-- src/lib.rt:20:1
+same-length : tie.Need-same-length
+same-length c = search needs
+
+-- src/lib.rt:20:1
+same-length-2 : tie.Need-same-length-2
+same-length-2 c = search needs
+
+-- src/lib.rt:20:1
+returns : tie.Need-returns
+returns c =
+    let a = c .before .before .before .before .before .before .before .before .before .before .before .before .before .before .before .before .before .before .before .before .args in
+    settled-listed (a .m) (a .places .now) _ _ _ _ (c .before .before .before .before .before .before .before .before .before .before .before .before .before .before .before .before .before .before .before .before .pre .0) (rw (c .before .before .before .before .before .before .before .before .before .before .before .before .before .before .before .sort-into .ensures) at (c .before .before .before .before .before .before .before .before .before .settle .ensures)) (c .before .before .before .before .finish .ensures)
+
+pub simplified-spec : {M : Type 1} → statement M
+simplified-spec =
+    tie.close
+    (tie.spec sort-into-requires settle-requires finish-requires same-length same-length-2 returns)

@@ -1,0 +1,67 @@
+-- `entries`: ranks, in order, each once, become entries.
+use mathlib.Core.Path.{sym}
+use lib.Seq.{length-take-le}
+use Rattle.tile_list.specs.Finish.{front-ranks, front-entries}
+use borrow.Author.Needs.{needs}
+use Rattle.tile_list.proofs.entries.Statement.{statement}
+use Rattle.tile_list.proofs.entries.Tie as tie
+use Rattle.tile_list.proofs.entries.Reads as reads
+use Rattle.tile_list.proofs.entries.Lts as lts
+use Rattle.quadtree.proofs.entries.Reads as entries-reads
+use Rattle.quadtree.proofs.ranks.Reads as ranks-reads
+use Rattle.sort.proofs.once.Reads as once-reads
+use Rattle.sort.proofs.sort.Reads as sort-reads
+
+-- src/lib.rt:25:5
+ranks-requires : tie.Need-ranks-requires
+ranks-requires c κs = search needs
+
+-- src/lib.rt:26:5
+sort-requires : tie.Need-sort-requires
+sort-requires c κs = search needs
+
+-- src/lib.rt:27:9
+once-requires : tie.Need-once-requires
+once-requires c κs = search needs
+
+-- src/lib.rt:28:23
+slice-relend-prefix-entries : tie.Need-slice-relend-prefix-entries
+slice-relend-prefix-entries c = search needs
+
+-- src/lib.rt:28:23
+slice-aggregate-entries : tie.Need-slice-aggregate-entries
+slice-aggregate-entries c = let o = c .before .before .before .once in sym (length-take-le (o .result) (o .last .0) (o .ensures .within))
+
+-- src/lib.rt:28:5
+entries-requires : tie.Need-entries-requires
+entries-requires c κs =
+    let a = c .before .before .before .before .before .before .before .before .before .before .before .before .before .before .before .before .before .before .args in
+    front-ranks (a .placed) (a .keys .now) _ _ _ _ (c .before .before .before .before .before .before .before .before .before .before .before .before .before .before .before .before .before .before .pre .0) (c .before .before .before .before .before .before .before .before .before .before .before .before .before .before .ranks .ensures) (c .before .before .before .before .before .before .before .before .before .sort .ensures) (c .before .before .before .once .ensures)
+
+-- src/lib.rt:21:1
+same-length : tie.Need-same-length
+same-length c = search needs
+
+-- src/lib.rt:21:1
+same-length-2 : tie.Need-same-length-2
+same-length-2 c = search needs
+
+-- src/lib.rt:21:1
+returns : tie.Need-returns
+returns c =
+    let a = c .before .before .before .before .before .before .before .before .before .before .before .before .before .before .before .before .before .before .before .before .before .args in
+    front-entries (a .placed) (a .keys .now) _ _ _ _ (c .before .before .before .before .before .before .before .before .before .before .before .before .before .before .before .before .before .before .before .before .before .pre .0) (c .before .before .before .before .before .before .before .before .before .before .before .before .before .before .before .before .before .ranks .ensures) (c .before .before .before .before .before .before .before .before .before .before .before .before .sort .ensures) (c .before .before .before .before .before .before .once .ensures) _ _ (c .before .before .entries .ensures)
+
+pub entries-spec : {M : Type 1} → statement M
+entries-spec =
+    tie.close
+    (tie.spec
+    ranks-requires
+    sort-requires
+    once-requires
+    slice-relend-prefix-entries
+    slice-aggregate-entries
+    entries-requires
+    same-length
+    same-length-2
+    returns)

@@ -1,0 +1,71 @@
+-- `finish`: the entries at the front, and zeros behind them.
+use mathlib.Core.Path.{sym, _∙_}
+use Prim.Native.Nat.{_≤_}
+use native.Mathlib.Omega.{arith}
+use lib.ListN.{length, length-append}
+use lib.Seq.{length-take-le}
+use Rattle.tile_list.specs.Finish.{finish-listed}
+use borrow.Author.Needs.{needs}
+use Rattle.tile_list.proofs.finish.Statement.{statement}
+use Rattle.tile_list.proofs.finish.Tie as tie
+use Rattle.tile_list.proofs.finish.Reads as reads
+use Rattle.tile_list.proofs.finish.Lts as lts
+use Rattle.sort.proofs.clear.Reads as clear-reads
+use Rattle.tile_list.proofs.entries.Reads as entries-reads
+
+-- src/lib.rt:16:26
+slice-relend-prefix-entries : tie.Need-slice-relend-prefix-entries
+slice-relend-prefix-entries c = search needs
+
+-- src/lib.rt:16:26
+slice-aggregate-entries : tie.Need-slice-aggregate-entries
+slice-aggregate-entries c = let a = c .before .before .before .args in sym (length-take-le (a .count) (a .keys .now) (c .before .before .before .pre .0 .0))
+
+-- src/lib.rt:16:46
+slice-relend-prefix-entries-2 : tie.Need-slice-relend-prefix-entries-2
+slice-relend-prefix-entries-2 c = search needs
+
+-- src/lib.rt:16:46
+slice-aggregate-entries-2 : tie.Need-slice-aggregate-entries-2
+slice-aggregate-entries-2 c =
+    let a = c .before .before .before .before .args in let p = c .before .before .before .before .pre .0 in sym (length-take-le (a .count) (a .scratch .now) (omega (arith, p .0, p .1)))
+
+-- src/lib.rt:16:9
+entries-requires : tie.Need-entries-requires
+entries-requires c κs =
+    let a = c .before .before .before .before .args in
+    let p = c .before .before .before .before .pre .0 in
+    (c .before .before .before .before .pre .1, length-take-le (a .count) (a .keys .now) (p .0) ∙ sym (length-take-le (a .count) (a .scratch .now) (omega (arith, p .0, p .1))))
+
+-- src/lib.rt:17:5
+clear-requires : tie.Need-clear-requires
+clear-requires c κs = let e = c .before .before .before .before .before .entries in rw (length-append (e .last .0) _) (omega (arith, e .ensures .0))
+
+-- src/lib.rt:11:1
+same-length : tie.Need-same-length
+same-length c = search needs
+
+-- src/lib.rt:11:1
+same-length-2 : tie.Need-same-length-2
+same-length-2 c = search needs
+
+-- src/lib.rt:11:1
+returns : tie.Need-returns
+returns c =
+    let a = c .before .before .before .before .before .before .before .before .before .before .before .before .before .args in
+    let e = c .before .before .before .before .before .before .before .before .entries in
+    finish-listed (a .placed) _ (e .last .0) _ (e .result) _ (c .before .before .before .before .before .before .before .before .before .before .before .before .before .pre .1) (e .ensures .0) (e .ensures .1) (c .before .before .clear .ensures)
+
+pub finish-spec : {M : Type 1} → statement M
+finish-spec =
+    tie.close
+    (tie.spec
+    slice-relend-prefix-entries
+    slice-aggregate-entries
+    slice-relend-prefix-entries-2
+    slice-aggregate-entries-2
+    entries-requires
+    clear-requires
+    same-length
+    same-length-2
+    returns)

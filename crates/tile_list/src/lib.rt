@@ -1,0 +1,30 @@
+// From the sort keys of a set's tiles to the set as a list in lent memory: entries in list order, each once, and 0 behind them.
+ghost use mathlib.Core.Path.{_≡_};
+ghost use mathlib.Core.List.{map};
+ghost use Prim.Native.Nat.{_≤_};
+ghost use lib.ListN.{length, take};
+ghost use Rattle.quadtree.specs.Lists.{sortKey, sortTile, TileNumbers};
+ghost use Rattle.tile_list.specs.Finish.{finished, Listed};
+ghost use Rattle.tile_list.specs.List.{named};
+
+// The first `count` keys become the list of their tiles. The answer says how many entries that is.
+pub fn finish(keys: &mut [u64], count: usize, scratch: &mut [u64], placed: bool) -> usize
+    requires { ⌜ (count ≤ length (now keys)) × (length (now keys) ≡ length (now scratch)) ⌝ }
+    requires { ⌜ TileNumbers (sortKey placed) (take count (now keys)) ⌝ }
+    ensures { λ r. ⌜ Listed (named (sortTile placed) (take count (now (keys .entry)))) (now (keys .exit)) r ⌝ }
+{
+    let listed = entries(&mut keys[..count], &mut scratch[..count], placed);
+    sort::clear(keys, listed);
+    listed
+}
+
+fn entries(keys: &mut [u64], scratch: &mut [u64], placed: bool) -> usize
+    requires { ⌜ TileNumbers (sortKey placed) (now keys) × (length (now keys) ≡ length (now scratch)) ⌝ }
+    ensures { λ r. ⌜ (r ≤ length (now (keys .exit))) × (take r (now (keys .exit)) ≡ finished (map (sortTile placed) (now (keys .entry)))) ⌝ }
+{
+    quadtree::ranks(keys, placed);
+    sort::sort(keys, scratch);
+    let once = sort::once(keys);
+    quadtree::entries(&mut keys[..once]);
+    once
+}
