@@ -16,9 +16,12 @@ fn main() {
     beside();
     family(b"2");
     family(b"13");
+    kept();
+    empty();
     all_of_zoom(16);
     zooms();
     key_lengths();
+    list_lengths();
 }
 
 fn key_and_numbers(name: &[u8], x: u32, y: u32, z: u8) {
@@ -68,6 +71,27 @@ fn family(key: &[u8]) {
     say(b"\n");
 }
 
+// A tile and its first child, with the tile's own zoom as the minimum.
+fn kept() {
+    let tiles = [1u64, 2];
+    say(b"keys");
+    say_keys(&tiles, 2);
+    say(b" at minimum zoom 1: simplify_v1 keeps");
+    let mut list = [0u64; 2];
+    let n = written(merge::simplify_v1(&tiles, OptionU8::Some(1), &mut list));
+    say_keys(&list, n);
+    say(b", simplify");
+    let k = written(merge::simplify(&tiles, OptionU8::Some(1), &mut list));
+    say_keys(&list, k);
+    say(b"\n");
+}
+
+fn empty() {
+    say(b"the empty list settles to ");
+    say_count(merge::simplify(&[], OptionU8::None, &mut []));
+    say(b"\n");
+}
+
 fn all_of_zoom(z: u8) {
     say(b"box of all zoom ");
     say_number(z as u64);
@@ -101,6 +125,17 @@ fn key_lengths() {
     say_tile(quadkey::quadkey2xyz(&key[..29]));
     say(b"; 30: ");
     say_tile(quadkey::quadkey2xyz(&key));
+    say(b"\n");
+}
+
+// Lists of nothing but the root.
+fn list_lengths() {
+    let tiles = [0u64; 65537];
+    let mut list = [0u64; 65537];
+    say(b"65536 entries settle to ");
+    say_count(merge::simplify(&tiles[..65536], OptionU8::None, &mut list));
+    say(b"; 65537: ");
+    say_count(merge::simplify(&tiles, OptionU8::None, &mut list));
     say(b"\n");
 }
 
@@ -145,6 +180,13 @@ fn say_u32(answer: U32Answer) {
     }
 }
 
+fn say_count(answer: Count) {
+    match answer {
+        Count::Counted(n) => say_number(n as u64),
+        Count::Refused(why) => say_refusal(why),
+    }
+}
+
 fn say_length(answer: BoxAnswer) {
     match answer {
         BoxAnswer::Found(b) => say_u64(b.length()),
@@ -163,6 +205,16 @@ fn say_entry_key(entry: u64) {
     match ids::entry_tile(entry) {
         TileAnswer::Found(t) => say_key(t.x, t.y, t.z),
         TileAnswer::Refused(why) => say_refusal(why),
+    }
+}
+
+// The first n entries, as keys.
+fn say_keys(list: &[u64; 2], n: usize) {
+    if n > 0 {
+        say_entry_key(list[0]);
+    }
+    if n > 1 {
+        say_entry_key(list[1]);
     }
 }
 

@@ -1,5 +1,9 @@
 // The arguments of a call, taken from its numbers. What is missing or does not fit its type is bad.
+use tile::OptionU8;
 use tile::Tile;
+
+// How the list writes None.
+const NONE: u64 = 256;
 
 pub enum U32Arg {
     Given(u32),
@@ -8,6 +12,11 @@ pub enum U32Arg {
 
 pub enum ByteArg {
     Given(u8),
+    Bad,
+}
+
+pub enum OptionArg {
+    Given(OptionU8),
     Bad,
 }
 
@@ -42,6 +51,19 @@ pub fn byte_at(args: &[u64], i: usize) -> ByteArg {
         return ByteArg::Bad;
     }
     ByteArg::Given(n as u8)
+}
+
+pub fn option_at(args: &[u64], i: usize) -> OptionArg {
+    if i >= args.len() {
+        return OptionArg::Bad;
+    }
+    if args[i] == NONE {
+        return OptionArg::Given(OptionU8::None);
+    }
+    match byte_at(args, i) {
+        ByteArg::Given(n) => OptionArg::Given(OptionU8::Some(n)),
+        ByteArg::Bad => OptionArg::Bad,
+    }
 }
 
 // The tile x y z at a place, on the map or off it.

@@ -6,19 +6,11 @@ use replay::answers;
 use replay::answers::BLANK;
 use replay::args;
 use replay::args::ByteArg;
+use replay::args::OptionArg;
 use replay::args::TileArg;
 use replay::args::U32Arg;
 use replay::calls;
-use tile::OptionU8;
 use tile::Tile;
-
-// How the list writes None.
-const NONE: u64 = 256;
-
-enum OptionArg {
-    Given(OptionU8),
-    Bad,
-}
 
 fn main() {
     let mut text = io::large_buffer();
@@ -165,7 +157,7 @@ fn beside(name: &[u8], t: Tile, want: &[u64]) -> bool {
 
 // The last argument counts zooms, or names one, or is None.
 fn of_tile_and_zooms(name: &[u8], t: Tile, given: &[u64], want: &[u64]) -> bool {
-    let OptionArg::Given(n) = option_at(given, 3) else {
+    let OptionArg::Given(n) = args::option_at(given, 3) else {
         return false;
     };
     if check::same(name, b"parent") {
@@ -181,17 +173,4 @@ fn of_tile_and_zooms(name: &[u8], t: Tile, given: &[u64], want: &[u64]) -> bool 
         return answers::same_numbers(answer, &out, want);
     }
     false
-}
-
-fn option_at(given: &[u64], i: usize) -> OptionArg {
-    if i >= given.len() {
-        return OptionArg::Bad;
-    }
-    if given[i] == NONE {
-        return OptionArg::Given(OptionU8::None);
-    }
-    match args::byte_at(given, i) {
-        ByteArg::Given(n) => OptionArg::Given(OptionU8::Some(n)),
-        ByteArg::Bad => OptionArg::Bad,
-    }
 }

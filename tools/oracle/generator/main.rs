@@ -2,6 +2,7 @@
 mod bbox;
 mod beyond;
 mod fns;
+mod merge;
 mod paper;
 mod parent;
 mod quadkey;
@@ -14,7 +15,7 @@ mod zoom;
 
 use record::List;
 
-const LISTS: [(&str, fn(&mut List)); 8] = [
+const LISTS: [(&str, fn(&mut List)); 9] = [
     ("sibling_relationship", sibling_relationship::write),
     ("tile", tile::write),
     ("quadkey", quadkey::write),
@@ -23,6 +24,7 @@ const LISTS: [(&str, fn(&mut List)); 8] = [
     ("tile_zbox", tile_zbox::write),
     ("zoom", zoom::write),
     ("bbox", bbox::write),
+    ("merge", merge::write),
 ];
 
 fn main() {

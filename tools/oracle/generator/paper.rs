@@ -117,6 +117,17 @@ pub fn zboxes(areas: &[Zbox]) -> u64 {
     lowest(&[lowest(&each), if areas.len() > MOST_BOXES { 6 } else { 0 }])
 }
 
+/// What `merge` and both settlings ask: no number that is no tile's, and a place for each entry as sent.
+pub fn tile_list(numbers: &[u64], places: usize) -> u64 {
+    if numbers.iter().any(|&n| id(n) != 0) {
+        7
+    } else if places < numbers.len() {
+        12
+    } else {
+        0
+    }
+}
+
 /// What `from_tiles` asks: no number that is no tile's, not empty, one zoom.
 pub fn box_list(numbers: &[u64]) -> u64 {
     if numbers.iter().any(|&n| id(n) != 0) {

@@ -1,0 +1,68 @@
+// The library's calls for C and for Rust: a refusal's number or 0 comes back, and each value through a pointer.
+use errors::Count;
+use merge::MergeAnswer;
+use tile::OptionU8;
+ghost use mathlib.Core.Path.{_≡_};
+ghost use Rattle.exports.specs.Exported.{given, givenMerge};
+ghost use Rattle.merge.specs.Merge.{mergeOf, simplifyV1Of, simplifyOf};
+
+#[no_mangle]
+pub extern "C" fn nori_merge(
+    list: &[u64],
+    minzoom: u8,
+    out: &mut [u64],
+    count: &mut u64,
+    changed: &mut u8,
+) -> u8
+    ensures { λ r. ⌜ givenMerge r (now (count .exit)) (now (changed .exit)) (now (out .exit)) ≡ mergeOf (now (list .entry)) minzoom (now (out .entry)) ⌝ }
+{
+    match merge::merge(list, OptionU8::Some(minzoom), out) {
+        MergeAnswer::Found(merged) => {
+            *count = merged.count as u64;
+            *changed = merged.changed as u8;
+            0
+        }
+        MergeAnswer::Refused(why) => {
+            *count = 0;
+            *changed = 0;
+            errors::number(why)
+        }
+    }
+}
+
+#[no_mangle]
+pub extern "C" fn nori_simplify_v1(
+    list: &[u64],
+    minzoom: u8,
+    out: &mut [u64],
+    count: &mut u64,
+) -> u8
+    ensures { λ r. ⌜ given r (now (count .exit)) (now (out .exit)) ≡ simplifyV1Of (now (list .entry)) minzoom (now (out .entry)) ⌝ }
+{
+    match merge::simplify_v1(list, OptionU8::Some(minzoom), out) {
+        Count::Counted(n) => {
+            *count = n as u64;
+            0
+        }
+        Count::Refused(why) => {
+            *count = 0;
+            errors::number(why)
+        }
+    }
+}
+
+#[no_mangle]
+pub extern "C" fn nori_simplify(list: &[u64], minzoom: u8, out: &mut [u64], count: &mut u64) -> u8
+    ensures { λ r. ⌜ given r (now (count .exit)) (now (out .exit)) ≡ simplifyOf (now (list .entry)) minzoom (now (out .entry)) ⌝ }
+{
+    match merge::simplify(list, OptionU8::Some(minzoom), out) {
+        Count::Counted(n) => {
+            *count = n as u64;
+            0
+        }
+        Count::Refused(why) => {
+            *count = 0;
+            errors::number(why)
+        }
+    }
+}

@@ -1,0 +1,41 @@
+-- `middle` lends a scratch as long as the list.
+use native.Mathlib.Omega.{arith}
+use Rattle.constants.specs.Limits.{maxEntries}
+use Rattle.merge.specs.Laws.{scratch-part}
+use borrow.Author.Needs.{needs}
+use Rattle.merge.proofs.middle.Statement.{statement}
+use Rattle.merge.proofs.middle.Tie as tie
+use Rattle.merge.proofs.middle.Reads as reads
+use Rattle.merge.proofs.middle.Lts as lts
+use Rattle.merge.proofs.work_in.Reads as work-in-reads
+
+-- src/lib.rt:108:33
+array-borrow-prefix-scratch : tie.Need-array-borrow-prefix-scratch
+array-borrow-prefix-scratch c = search needs
+
+-- src/lib.rt:108:33
+slice-aggregate-work-in : tie.Need-slice-aggregate-work-in
+slice-aggregate-work-in c = scratch-part 4096 _ (c .before .before .before .before .pre)
+
+-- src/lib.rt:108:5
+work-in-requires : tie.Need-work-in-requires
+unfolding maxEntries
+work-in-requires c κs = (scratch-part 4096 _ (c .before .before .before .before .pre), omega (arith, c .before .before .before .before .pre))
+
+-- src/lib.rt:102:1
+same-length : tie.Need-same-length
+same-length c = search needs
+
+-- src/lib.rt:102:1
+returns : tie.Need-returns
+returns c = search needs
+
+pub middle-spec : {M : Type 1} → statement M
+middle-spec =
+    tie.close
+    (tie.spec
+    array-borrow-prefix-scratch
+    slice-aggregate-work-in
+    work-in-requires
+    same-length
+    returns)

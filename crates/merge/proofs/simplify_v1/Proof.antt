@@ -1,0 +1,38 @@
+-- `simplify_v1` is the work of that name, counted.
+use Rattle.merge.specs.Laws.{counted-left}
+use Rattle.merge.specs.declared.Work.the-variants.{SimplifyV1}
+use borrow.Author.Needs.{needs}
+use Rattle.merge.proofs.simplify_v1.Statement.{statement}
+use Rattle.merge.proofs.simplify_v1.Tie as tie
+use Rattle.merge.proofs.simplify_v1.Reads as reads
+use Rattle.merge.proofs.simplify_v1.Lts as lts
+use Rattle.merge.proofs.counted.Reads as counted-reads
+use Rattle.merge.proofs.run.Reads as run-reads
+use Rattle.tile.proofs.OptionU8.unwrap_or.Reads as unwrap-or-reads
+
+-- src/lib.rt:39:9
+unwrap-or-requires : tie.Need-unwrap-or-requires
+unwrap-or-requires c κs = search needs
+
+-- src/lib.rt:40:13
+run-requires : tie.Need-run-requires
+run-requires c κs = search needs
+
+-- src/lib.rt:40:5
+counted-requires : tie.Need-counted-requires
+counted-requires c κs = search needs
+
+-- src/lib.rt:36:1
+same-length : tie.Need-same-length
+same-length c = search needs
+
+-- src/lib.rt:36:1
+returns : tie.Need-returns
+returns c =
+    let a = c .before .before .before .before .before .before .before .before .args in
+    rw (← c .before .before .before .before .before .unwrap-or .ensures)
+    (counted-left (c .before .before .before .run .result) (c .counted .result) SimplifyV1 (a .list .now) (c .before .before .before .before .before .unwrap-or .result) (a .out .now) _ (c .counted .ensures) (c .before .before .before .run .ensures))
+
+pub simplify-v1-spec : {M : Type 1} → statement M
+simplify-v1-spec =
+    tie.close (tie.spec unwrap-or-requires run-requires counted-requires same-length returns)
