@@ -1,8 +1,8 @@
 -- Tests that are joined, two of them or one for each entry of a list: what holds of each.
-use mathlib.Core.Path.{_≡_, refl}
+use mathlib.Core.Path.{_≡_, refl, ap}
 use mathlib.Core.Bool.{Bool, true, false, not, _&&_, _||_}
 use mathlib.Core.Logic.{_⊎_, inl, inr}
-use mathlib.Core.List.{List, [], _∷_, List·Memᴰ, List·Memᴰ·head, List·Memᴰ·tail, List·Memᴰ·not-nil, List·Memᴰ·cases-cons}
+use mathlib.Core.List.{List, [], _∷_, map, List·Memᴰ, List·Memᴰ·head, List·Memᴰ·tail, List·Memᴰ·not-nil, List·Memᴰ·cases-cons}
 use Prim.Native.Nat.{ℕ, zero, suc, _+_, _≤_, _<_}
 use native.Mathlib.Numerals.{add-one}
 use native.Mathlib.Omega.{arith}
@@ -87,3 +87,21 @@ any-in {A} p (b ∷ l) e = pick (p b) refl e (any-in p l)
         → (a : A) × List·Memᴰ a (b ∷ l) × (p a ≡ true)
     pick true f g below = (b, List·Memᴰ·head refl, f)
     pick false f g below = let s = below g in (s .0, List·Memᴰ·tail (s .1), s .2)
+
+-- what is in a list whose entries are mapped
+pub in-map : {A B : Type 0} (f : A → B) {b : B} (l : List A) → List·Memᴰ b (map f l) → (a : A) × List·Memᴰ a l × (b ≡ f a)
+in-map f [] m = absurd (List·Memᴰ·not-nil m)
+in-map {A} f {b} (t ∷ l) m = pick (List·Memᴰ·cases-cons m) (in-map f l)
+  where
+    pick : (b ≡ f t) ⊎ List·Memᴰ b (map f l) → (List·Memᴰ b (map f l) → (a : A) × List·Memᴰ a l × (b ≡ f a))
+        → (a : A) × List·Memᴰ a (t ∷ l) × (b ≡ f a)
+    pick (inl e) g = (t, List·Memᴰ·head refl, e)
+    pick (inr k) g = let s = g k in (s .0, List·Memᴰ·tail (s .1), s .2)
+
+pub into-map : {A B : Type 0} (f : A → B) {a : A} (l : List A) → List·Memᴰ a l → List·Memᴰ (f a) (map f l)
+into-map f [] m = absurd (List·Memᴰ·not-nil m)
+into-map f {a} (b ∷ l) m = pick (List·Memᴰ·cases-cons m) (into-map f l)
+  where
+    pick : (a ≡ b) ⊎ List·Memᴰ a l → (List·Memᴰ a l → List·Memᴰ (f a) (map f l)) → List·Memᴰ (f a) (map f (b ∷ l))
+    pick (inl e) g = List·Memᴰ·head (ap f e)
+    pick (inr k) g = List·Memᴰ·tail (g k)

@@ -10,7 +10,7 @@ use Prim.Native.Nat.{ℕ, zero, suc, _+_, _*_, _<_}
 use native.Mathlib.Omega.{arith}
 use lib.ListN.{length, take, drop, getD}
 use lib.Seq.{take-at, drop-append-add}
-use Rattle.bits.specs.Tests.{getD-in}
+use Rattle.bits.specs.Tests.{getD-in, in-map}
 use Rattle.children.specs.Children.{gather}
 
 -- membership in lists that are gathered
@@ -62,15 +62,6 @@ once-at (a ∷ l) o zero zero d h k e = refl
 once-at (a ∷ l) o zero (suc j) d h k e = absurd (once-rest o .0 (Memᴰ·cast e (getD-in l j d (omega arith))))
 once-at (a ∷ l) o (suc i) zero d h k e = absurd (once-rest o .0 (Memᴰ·cast (sym e) (getD-in l i d (omega arith))))
 once-at (a ∷ l) o (suc i) (suc j) d h k e = ap suc (once-at l (once-rest o .1) i j d (omega arith) (omega arith) e)
-
-pub in-map : {A B : Type 0} (f : A → B) {b : B} (l : List A) → List·Memᴰ b (map f l) → (a : A) × List·Memᴰ a l × (b ≡ f a)
-in-map f [] m = absurd (List·Memᴰ·not-nil m)
-in-map {A} f {b} (t ∷ l) m = pick (List·Memᴰ·cases-cons m) (in-map f l)
-  where
-    pick : (b ≡ f t) ⊎ List·Memᴰ b (map f l) → (List·Memᴰ b (map f l) → (a : A) × List·Memᴰ a l × (b ≡ f a))
-        → (a : A) × List·Memᴰ a (t ∷ l) × (b ≡ f a)
-    pick (inl e) g = (t, List·Memᴰ·head refl, e)
-    pick (inr k) g = let s = g k in (s .0, List·Memᴰ·tail (s .1), s .2)
 
 -- what tells the members of a list apart leaves each of them once
 pub once-map : {A B : Type 0} (f : A → B) (l : List A) → List·Nodup l → ((a b : A) → List·Memᴰ a l → List·Memᴰ b l → f a ≡ f b → a ≡ b)

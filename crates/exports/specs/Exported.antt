@@ -1,9 +1,15 @@
 -- What an exported call gives: the number that it returns, what stands behind its pointers, and the lent memory.
+use mathlib.Core.Path.{_≡_, ap, _∙_}
 use mathlib.Core.Bool.{Bool, true, false}
 use mathlib.Core.List.{List}
 use Prim.Native.Nat.{ℕ, zero, suc}
-use Rattle.errors.specs.Answer.{Lent}
+use Rattle.errors.specs.Answer.{Answer, Lent}
+use Rattle.errors.specs.Cases.{countCase, left}
+use Rattle.errors.specs.declared.Count.{Count}
 use Rattle.merge.specs.declared.Merged.{Merged}
+
+abbrev pub answered : ℕ → ℕ → Answer ℕ
+answered number value = record { number = number; value = value }
 
 abbrev pub given : ℕ → ℕ → List ℕ → Lent ℕ
 given number count memory = record { number = number; value = count; memory = memory }
@@ -15,3 +21,7 @@ isTrue (suc n) = true
 
 abbrev pub givenMerge : ℕ → ℕ → ℕ → List ℕ → Lent Merged
 givenMerge number count changed memory = record { number = number; value = record { count = count; changed = isTrue changed }; memory = memory }
+
+-- a count that is handed on is the answer's, beside the memory that the call left
+pub handed-on : (answer : Count) (r n : ℕ) (memory : List ℕ) {L : Lent ℕ} → answered r n ≡ countCase answer → left answer memory ≡ L → given r n memory ≡ L
+handed-on answer r n memory e f = ap (λ (a : Answer ℕ). given (a .number) (a .value) memory) e ∙ f

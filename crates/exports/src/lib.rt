@@ -3,7 +3,8 @@ use errors::Count;
 use merge::MergeAnswer;
 use tile::OptionU8;
 ghost use mathlib.Core.Path.{_≡_};
-ghost use Rattle.exports.specs.Exported.{given, givenMerge};
+ghost use Rattle.errors.specs.Cases.{countCase};
+ghost use Rattle.exports.specs.Exported.{answered, given, givenMerge};
 ghost use Rattle.merge.specs.Merge.{mergeOf, simplifyV1Of, simplifyOf};
 
 #[no_mangle]
@@ -39,23 +40,22 @@ pub extern "C" fn nori_simplify_v1(
 ) -> u8
     ensures { λ r. ⌜ given r (now (count .exit)) (now (out .exit)) ≡ simplifyV1Of (now (list .entry)) minzoom (now (out .entry)) ⌝ }
 {
-    match merge::simplify_v1(list, OptionU8::Some(minzoom), out) {
-        Count::Counted(n) => {
-            *count = n as u64;
-            0
-        }
-        Count::Refused(why) => {
-            *count = 0;
-            errors::number(why)
-        }
-    }
+    let answer = merge::simplify_v1(list, OptionU8::Some(minzoom), out);
+    give(answer, count)
 }
 
 #[no_mangle]
 pub extern "C" fn nori_simplify(list: &[u64], minzoom: u8, out: &mut [u64], count: &mut u64) -> u8
     ensures { λ r. ⌜ given r (now (count .exit)) (now (out .exit)) ≡ simplifyOf (now (list .entry)) minzoom (now (out .entry)) ⌝ }
 {
-    match merge::simplify(list, OptionU8::Some(minzoom), out) {
+    let answer = merge::simplify(list, OptionU8::Some(minzoom), out);
+    give(answer, count)
+}
+
+fn give(answer: Count, count: &mut u64) -> u8
+    ensures { λ r. ⌜ answered r (now (count .exit)) ≡ countCase answer ⌝ }
+{
+    match answer {
         Count::Counted(n) => {
             *count = n as u64;
             0

@@ -8,13 +8,13 @@ use lib.Dec.{ltb}
 use lib.ListN.{length, take}
 use lib.Seq.{length-take-le}
 use borrow.Author.Tests.{ltb-true, ltb-false}
-use Rattle.bits.specs.Tests.{anyOf, in-any, any-in}
+use Rattle.bits.specs.Tests.{anyOf, in-any, any-in, into-map}
 use Rattle.quadtree.specs.Lists.{TileNumbers}
 use Rattle.quadtree.specs.Numbers.{quadOf, quadTile}
 use Rattle.sort.specs.Laws.{by-once-rising}
 use Rattle.sort.specs.Sort.{By, Rising, onceOf}
 use Rattle.tile.specs.declared.Tile.{Tile}
-use Rattle.tile_list.specs.Laws.{into-map, named-by, once-named, once-numbers}
+use Rattle.tile_list.specs.Laws.{named-by, once-named, once-numbers}
 use Rattle.tile_list.specs.List.{named}
 use Rattle.tile_set.specs.Merged.{is-false}
 use Rattle.tile_set.specs.Set.{joins, merged}

@@ -1,13 +1,11 @@
 -- The pass on quads is the merging of document 01: the tiles of the list that it leaves are the merged set.
 use mathlib.Core.Path.{_≡_, sym, ap, _∙_, subst}
-use mathlib.Core.Bool.{Bool, true, false, cond}
+use mathlib.Core.Bool.{Bool, true, false}
 use mathlib.Core.Logic.{_⊎_, inl, inr}
 use mathlib.Core.List.{List, List·Memᴰ, Memᴰ·cast}
-use Prim.Native.Nat.{ℕ, zero, suc, _+_, _-_, _*_, _/_, _%_, _^_, _≤_, _<_}
-use native.Mathlib.Decide.{decLt, decLe}
-use native.Mathlib.Numerals.{add-one}
+use Prim.Native.Nat.{ℕ, _+_, _*_, _/_, _%_, _^_, _≤_, _<_}
+use native.Mathlib.Decide.{decLt}
 use native.Mathlib.Omega.{arith}
-use lib.Dec.{ltb}
 use lib.ListN.{length}
 use borrow.Author.Tests.{lt-ltb, le-ltb}
 use Rattle.constants.specs.Limits.{maxZoom}
@@ -20,7 +18,7 @@ use Rattle.tile_list.specs.List.{named}
 use Rattle.tile_list.specs.Laws.{named-by, names, valid-tile, map-tile}
 use Rattle.tile_set.specs.Holds.{valid-parent, valid-child, parent-of-child}
 use Rattle.tile_set.specs.Merged.{whole-all, joins-when, joined-when, merged-cases, merged-kept, merged-joined, joined-joins, joins-joined, is-false, bool-ext}
-use Rattle.tile_set.specs.Set.{parentTile, child, whole, joins, joined, merged}
+use Rattle.tile_set.specs.Set.{parentTile, child, joins, joined, merged}
 use Rattle.families.specs.Join.{firstQuad, joinOf}
 use Rattle.families.specs.Members.{Family, Left, join-leaves, join-keeps, join-same, join-shorter}
 

@@ -4,13 +4,12 @@ use mathlib.Core.Bool.{Bool, true, false, not}
 use mathlib.Core.List.{List, map, _++_, append-assoc}
 use Prim.Native.Nat.{ℕ, zero, suc, _-_, _%_, _≤_, _<_}
 use native.Mathlib.Omega.{arith}
-use lib.Dec.{ltb}
 use lib.ListN.{length, take, drop, replicate, length-map, length-replicate}
 use lib.Seq.{length-take-le}
 use borrow.Author.Tests.{lt-ltb, le-ltb}
 use Rattle.bits.specs.Tests.{not-true, not-false, allOf, anyOf, in-any, any-in}
 use Rattle.constants.specs.Limits.{maxZoom, maxEntries}
-use Rattle.errors.specs.Answer.{Answer, Lent, _when_, _else_}
+use Rattle.errors.specs.Answer.{Answer, Lent}
 use Rattle.errors.specs.Cases.{countCase, left}
 use Rattle.errors.specs.declared.Count.{Count}
 use Rattle.errors.specs.declared.Refusal.the-variants.{TooMany, NoTile, Memory}
@@ -21,7 +20,7 @@ use Rattle.quadtree.specs.Numbers.{placeTile}
 use Rattle.quadtree.specs.Lists.{sortTile, entryKey, Keyed}
 use Rattle.tile.specs.declared.Tile.{Tile}
 use Rattle.tile_list.specs.Finish.{Listed}
-use Rattle.tile_list.specs.Laws.{named-by, names, keys-named}
+use Rattle.tile_list.specs.Laws.{named-by, keys-named}
 use Rattle.tile_list.specs.List.{named, listed, entriesInOrder, listRefusal, placesRefusal, filled, listAnswer}
 use Rattle.tile_set.specs.Holds.{child-of-parent}
 use Rattle.tile_set.specs.Merged.{whole-all, joins-when, is-false}

@@ -6,13 +6,12 @@ use mathlib.Core.Logic.{_↔_}
 use Prim.Native.Nat.{ℕ}
 use native.Mathlib.Omega.{arith}
 use borrow.Author.Tests.{eq-eqb}
-use Rattle.bits.specs.Tests.{allOf, in-all, anyOf, in-any, any-in}
-use Rattle.children.specs.Members.{in-map}
+use Rattle.bits.specs.Tests.{allOf, in-all, anyOf, in-any, any-in, in-map, into-map}
 use Rattle.constants.specs.Limits.{maxZoom}
 use Rattle.ids.specs.Entry.{entryOf, entryTile, entriesOf, isEntry, entry-accepted, entry-tile-again}
 use Rattle.tile.specs.OnMap.{OnMap}
 use Rattle.tile.specs.declared.Tile.{Tile}
-use Rattle.tile_list.specs.Laws.{into-map, named-by, names, listed-within, map-tile, same-named}
+use Rattle.tile_list.specs.Laws.{named-by, names, listed-within, map-tile, same-named}
 use Rattle.tile_list.specs.List.{listed, entriesInOrder}
 use Rattle.tile_set.specs.Holds.{Holds}
 use Rattle.tile_set.specs.InOrder.{Ordered, in-order-of, in-order-in, in-order-ordered}

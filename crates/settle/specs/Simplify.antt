@@ -1,6 +1,6 @@
 -- The pass leaves the places of the simplified set.
-use mathlib.Core.Path.{_≡_, sym, ap, _∙_}
-use mathlib.Core.Bool.{Bool, true}
+use mathlib.Core.Path.{_≡_, ap, _∙_}
+use mathlib.Core.Bool.{true}
 use mathlib.Core.List.{List}
 use Prim.Native.Nat.{ℕ}
 use lib.ListN.{take}
@@ -8,7 +8,6 @@ use Rattle.constants.specs.Limits.{maxZoom}
 use Rattle.quadtree.specs.Lists.{TileNumbers}
 use Rattle.quadtree.specs.Numbers.{placeOf, placeTile}
 use Rattle.sort.specs.Sort.{sortN}
-use Rattle.tile.specs.declared.Tile.{Tile}
 use Rattle.tile_list.specs.Finish.{Listed}
 use Rattle.tile_list.specs.Laws.{sort-named, sort-numbers, named-within}
 use Rattle.tile_list.specs.List.{named}

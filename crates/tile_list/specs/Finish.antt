@@ -1,15 +1,14 @@
 -- From the tiles of a set, in any order and some of them twice, to the set as a list: their ranks in order, each once, are its entries.
 use mathlib.Core.Path.{_≡_, refl, sym, ap, _∙_}
 use mathlib.Core.Bool.{Bool, true}
-use mathlib.Core.Logic.{_⊎_, inl, inr}
-use mathlib.Core.List.{List, [], _∷_, _++_, map, List·Memᴰ, List·Memᴰ·head, List·Memᴰ·tail, List·Memᴰ·not-nil, List·Memᴰ·cases-cons, Memᴰ·cast}
+use mathlib.Core.List.{List, [], _∷_, _++_, map, List·Memᴰ, List·Memᴰ·head, List·Memᴰ·tail, Memᴰ·cast}
 use Prim.Native.Nat.{ℕ, _-_, _≤_}
 use native.Mathlib.Omega.{arith}
 use lib.ListN.{length, take, replicate, length-append, length-map, length-replicate}
 use lib.Seq.{length-take-le, take-append-le, take-at}
+use Rattle.bits.specs.Tests.{in-map, into-map}
 use Rattle.constants.specs.Limits.{maxZoom}
 use Rattle.ids.specs.Entry.{entriesOf}
-use Rattle.children.specs.Members.{in-map}
 use Rattle.quadtree.specs.Lists.{sortKey, sortTile, key-tile, keyRank, rankEntry, TileNumbers}
 use Rattle.quadtree.specs.Numbers.{OfMap, rankOf, rankTile}
 use Rattle.quadtree.specs.Laws.{rank-tile, before-rank}
@@ -17,10 +16,9 @@ use Rattle.sort.specs.Sort.{Rising, Once, sortN, onceOf}
 use Rattle.sort.specs.Laws.{in-sort, sort-in, in-once, once-in, once-rising}
 use Rattle.tile.specs.Order.{Before}
 use Rattle.tile.specs.declared.Tile.{Tile}
-use Rattle.tile_set.specs.Set.{inOrder}
 use Rattle.tile_set.specs.Holds.{Valid}
 use Rattle.tile_set.specs.InOrder.{Ordered, in-order-is}
-use Rattle.tile_list.specs.Laws.{into-map, named-by, names, map-tile, named-within}
+use Rattle.tile_list.specs.Laws.{named-by, names, map-tile, named-within}
 use Rattle.tile_list.specs.List.{named, entriesInOrder}
 
 -- tiles, by their ranks, as a list

@@ -1,13 +1,11 @@
 -- Laws of the tiles that a list names.
 use mathlib.Core.Path.{_≡_, refl, sym, ap, _∙_}
 use mathlib.Core.Bool.{Bool, true}
-use mathlib.Core.Logic.{_⊎_, inl, inr}
-use mathlib.Core.List.{List, [], _∷_, map, List·Memᴰ, List·Memᴰ·head, List·Memᴰ·tail, List·Memᴰ·not-nil, List·Memᴰ·cases-cons}
+use mathlib.Core.List.{List, map, List·Memᴰ}
 use Prim.Native.Nat.{ℕ}
 use lib.Dec.{eqb}
 use borrow.Author.Tests.{eq-eqb, eqb-true}
-use Rattle.bits.specs.Tests.{and-parts, allOf, all-in, anyOf, in-any, any-in}
-use Rattle.children.specs.Members.{in-map}
+use Rattle.bits.specs.Tests.{and-parts, allOf, all-in, in-any, any-in, in-map, into-map}
 use Rattle.constants.specs.Limits.{maxZoom}
 use Rattle.ids.specs.Entry.{entryTile, isEntry, accepted-entry}
 use Rattle.quadtree.specs.Lists.{sortKey, sortTile, entryKey, key-tile, TileNumbers}
@@ -19,14 +17,6 @@ use Rattle.tile.specs.declared.Tile.{Tile}
 use Rattle.tile_set.specs.Holds.{Valid}
 use Rattle.tile_set.specs.Merged.{Within, bool-ext}
 use Rattle.tile_list.specs.List.{same, named, listed}
-
-pub into-map : {A B : Type 0} (f : A → B) {a : A} (l : List A) → List·Memᴰ a l → List·Memᴰ (f a) (map f l)
-into-map f [] m = absurd (List·Memᴰ·not-nil m)
-into-map f {a} (b ∷ l) m = pick (List·Memᴰ·cases-cons m) (into-map f l)
-  where
-    pick : (a ≡ b) ⊎ List·Memᴰ a l → (List·Memᴰ a l → List·Memᴰ (f a) (map f l)) → List·Memᴰ (f a) (map f (b ∷ l))
-    pick (inl e) g = List·Memᴰ·head (ap f e)
-    pick (inr k) g = List·Memᴰ·tail (g k)
 
 pub same-tile : (s t : Tile) → same s t ≡ true → s ≡ t
 same-tile s t e =

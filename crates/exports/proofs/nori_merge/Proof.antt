@@ -1,7 +1,6 @@
 -- `nori_merge` is the library's `merge`.
 use mathlib.Core.Path.{_≡_, refl, sym, ap, _∙_}
 use mathlib.Core.Bool.{Bool, true, false}
-use mathlib.Core.List.{List}
 use Prim.Native.Nat.{ℕ}
 use Rattle.exports.specs.Exported.{isTrue, givenMerge}
 use Rattle.merge.specs.Merge.{mergedLeft}

@@ -1,5 +1,5 @@
 -- `first_quad`: 2 ^ (2 * (z + 1)) is 4 ^ (z + 1), and fits 64 bits.
-use mathlib.Core.Path.{_≡_, sym, _∙_}
+use mathlib.Core.Path.{_≡_, _∙_}
 use Prim.Native.Nat.{ℕ, _+_, _*_, _%_, _^_, _≤_, _<_}
 use native.Mathlib.Omega.{arith}
 use borrow.Author.Tests.{lt-ltb, le-ltb}

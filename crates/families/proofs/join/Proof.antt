@@ -1,16 +1,16 @@
 -- `join`: what stands at the front, and what is left of the numbers from i on, are what the pass leaves.
-use mathlib.Core.Path.{_≡_, refl, sym, ap, _∙_}
+use mathlib.Core.Path.{_≡_, refl, sym, _∙_}
 use mathlib.Core.Logic.{⊎-elim}
 use mathlib.Core.Bool.{true, false}
 use mathlib.Core.List.{List, [], _∷_, _++_, append-assoc, append-nil}
-use Prim.Native.Nat.{ℕ, suc, _+_, _-_, _/_, _≤_, _<_}
+use Prim.Native.Nat.{ℕ, _+_, _-_, _/_, _≤_, _<_}
 use native.Mathlib.Omega.{arith}
 use native.Mathlib.Numerals.{add-one}
 use borrow.Author.Needs.{needs}
 use lib.ListN.{length, take, drop, getD, set, length-set, length-drop, drop-of-length-le}
 use lib.Seq.{take-suc-set, drop-set-lt}
 use Rattle.families.specs.Join.{fourFrom, joinAfter, joinOf}
-use Rattle.families.specs.Laws.{Four, four-true, join-alone, join-family}
+use Rattle.families.specs.Laws.{four-true, join-alone, join-family}
 use Rattle.families.proofs.join.Statement.{statement}
 use Rattle.families.proofs.join.Tie as tie
 use Rattle.families.proofs.join.Reads as reads

@@ -1,8 +1,7 @@
 -- `finish`: the entries at the front, and zeros behind them.
 use mathlib.Core.Path.{sym, _∙_}
-use Prim.Native.Nat.{_≤_}
 use native.Mathlib.Omega.{arith}
-use lib.ListN.{length, length-append}
+use lib.ListN.{length-append}
 use lib.Seq.{length-take-le}
 use Rattle.tile_list.specs.Finish.{finish-listed}
 use borrow.Author.Needs.{needs}
