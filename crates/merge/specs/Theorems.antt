@@ -1,10 +1,12 @@
 -- What the calls on tile lists promise, in document 01's words. The lists are any that are not refused by 7; nothing else is assumed.
 use mathlib.Core.Path.{_≡_, refl, sym, ap, _∙_, subst}
 use mathlib.Core.Bool.{Bool, true, false}
-use mathlib.Core.List.{List, List·Memᴰ}
+use mathlib.Core.List.{List, _++_, append-assoc, List·Memᴰ}
 use mathlib.Core.Logic.{_↔_}
-use Prim.Native.Nat.{ℕ}
+use Prim.Native.Nat.{ℕ, _-_, _≤_}
 use native.Mathlib.Omega.{arith}
+use lib.ListN.{length, take, drop, replicate, length-append, length-replicate}
+use lib.Seq.{take-append-le}
 use borrow.Author.Tests.{eq-eqb}
 use Rattle.bits.specs.Tests.{allOf, in-all, anyOf, in-any, any-in, in-map, into-map}
 use Rattle.constants.specs.Limits.{maxZoom}
@@ -12,7 +14,7 @@ use Rattle.ids.specs.Entry.{entryOf, entryTile, entriesOf, isEntry, entry-accep
 use Rattle.tile.specs.OnMap.{OnMap}
 use Rattle.tile.specs.declared.Tile.{Tile}
 use Rattle.tile_list.specs.Laws.{named-by, names, listed-within, map-tile, same-named}
-use Rattle.tile_list.specs.List.{listed, entriesInOrder}
+use Rattle.tile_list.specs.List.{listed, entriesInOrder, filled}
 use Rattle.tile_set.specs.Holds.{Holds}
 use Rattle.tile_set.specs.InOrder.{Ordered, in-order-of, in-order-in, in-order-ordered}
 use Rattle.tile_set.specs.Merged.{Within, is-false, bool-ext, merged-within, passes-within}
@@ -160,3 +162,16 @@ pub simplify-at-0-is-settled : (list : List ℕ) → allOf isEntry list ≡ true
 simplify-at-0-is-settled list accepted =
     let s = settled-at-0 (listed list) (listed-within list accepted) in
     (in-order-ordered maxZoom (simplified maxZoom 0 (listed list)), s .0, s .1)
+
+-- "however the lent buffers were filled before": what an accepted call leaves in the places that it asked for is the same for every memory
+pub the-memory-before-does-not-matter : (places : ℕ) (items a b : List ℕ) → take places (filled places items a) ≡ take places (filled places items b)
+the-memory-before-does-not-matter places items a b = front a ∙ sym (front b)
+  where
+    zeros : List ℕ
+    zeros = replicate (places - length items) 0
+
+    long : places ≤ length (items ++ zeros)
+    long = rw (length-append items zeros, length-replicate {A = ℕ} (places - length items) 0) (omega arith)
+
+    front : (memory : List ℕ) → take places (filled places items memory) ≡ take places (items ++ zeros)
+    front memory = ap (take places) (sym (append-assoc items zeros (drop places memory))) ∙ take-append-le places (items ++ zeros) (drop places memory) long

@@ -1,3 +1,4 @@
 pub mod Sort
 pub mod Laws
 pub mod Pass
+pub mod Theorems
