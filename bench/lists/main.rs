@@ -18,6 +18,8 @@ unsafe extern "C" {
 }
 
 const THREAD_CPU_TIME: i32 = 3;
+/// The entries of a turn, at least.
+const TURN: usize = 65536;
 const SIZES: [usize; 9] = [1, 4, 16, 64, 256, 1024, 4096, 16384, 65536];
 
 /// A function of either library: a list in, the answer in lent memory, its count out.
@@ -58,13 +60,17 @@ fn now() -> f64 {
     time[0] as f64 * 1e9 + time[1] as f64
 }
 
-/// One turn over all lists, in ns for one entry.
+/// One turn over all lists, in ns for one entry. Short lists are gone over again, so that a turn is long for the clock.
 fn turn(call: Call, lists: &[Vec<u64>], out: &mut [u64]) -> f64 {
+    let entries = lists.len() * lists[0].len();
+    let rounds = (TURN / entries).max(1);
     let start = now();
-    for list in lists {
-        black_box(call(black_box(list), out));
+    for _ in 0..rounds {
+        for list in lists {
+            black_box(call(black_box(list), out));
+        }
     }
-    (now() - start) / (lists.len() * lists[0].len()) as f64
+    (now() - start) / (rounds * entries) as f64
 }
 
 /// The best of turns that alternate between the two, until each has had its time.
