@@ -1,8 +1,8 @@
 -- What an exported call gives: the number that it returns, what stands behind its pointers, and the lent memory.
 use mathlib.Core.Path.{_≡_, ap, _∙_}
-use mathlib.Core.Bool.{Bool, true, false}
+use mathlib.Core.Bool.{cond}
 use mathlib.Core.List.{List}
-use Prim.Native.Nat.{ℕ, zero, suc}
+use Prim.Native.Nat.{ℕ}
 use Rattle.errors.specs.Answer.{Answer, Lent}
 use Rattle.errors.specs.Cases.{countCase, left}
 use Rattle.errors.specs.declared.Count.{Count}
@@ -14,13 +14,18 @@ answered number value = record { number = number; value = value }
 abbrev pub given : ℕ → ℕ → List ℕ → Lent ℕ
 given number count memory = record { number = number; value = count; memory = memory }
 
--- a bool as a number
-abbrev pub isTrue : ℕ → Bool
-isTrue zero = false
-isTrue (suc n) = true
+-- of `merge` two values: the count, and 1 or 0 for `changed`
+pub record MergeGiven : Type 0 where
+  pub number : ℕ
+  pub count : ℕ
+  pub changed : ℕ
+  pub memory : List ℕ
 
-abbrev pub givenMerge : ℕ → ℕ → ℕ → List ℕ → Lent Merged
-givenMerge number count changed memory = record { number = number; value = record { count = count; changed = isTrue changed }; memory = memory }
+abbrev pub givenMerge : ℕ → ℕ → ℕ → List ℕ → MergeGiven
+givenMerge number count changed memory = record { number = number; count = count; changed = changed; memory = memory }
+
+abbrev pub inNumbers : Lent Merged → MergeGiven
+inNumbers a = givenMerge (a .number) (a .value .count) (cond (a .value .changed) 1 0) (a .memory)
 
 -- a count that is handed on is the answer's, beside the memory that the call left
 pub handed-on : (answer : Count) (r n : ℕ) (memory : List ℕ) {L : Lent ℕ} → answered r n ≡ countCase answer → left answer memory ≡ L → given r n memory ≡ L

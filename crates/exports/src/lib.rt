@@ -4,7 +4,7 @@ use merge::MergeAnswer;
 use tile::OptionU8;
 ghost use mathlib.Core.Path.{_≡_};
 ghost use Rattle.errors.specs.Cases.{countCase};
-ghost use Rattle.exports.specs.Exported.{answered, given, givenMerge};
+ghost use Rattle.exports.specs.Exported.{answered, given, givenMerge, inNumbers};
 ghost use Rattle.merge.specs.Merge.{mergeOf, simplifyV1Of, simplifyOf};
 
 #[no_mangle]
@@ -15,7 +15,7 @@ pub extern "C" fn nori_merge(
     count: &mut u64,
     changed: &mut u8,
 ) -> u8
-    ensures { λ r. ⌜ givenMerge r (now (count .exit)) (now (changed .exit)) (now (out .exit)) ≡ mergeOf (now (list .entry)) minzoom (now (out .entry)) ⌝ }
+    ensures { λ r. ⌜ givenMerge r (now (count .exit)) (now (changed .exit)) (now (out .exit)) ≡ inNumbers (mergeOf (now (list .entry)) minzoom (now (out .entry))) ⌝ }
 {
     match merge::merge(list, OptionU8::Some(minzoom), out) {
         MergeAnswer::Found(merged) => {

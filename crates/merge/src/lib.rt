@@ -31,8 +31,8 @@ pub fn merge(list: &[u64], minzoom: OptionU8, out: &mut [u64]) -> MergeAnswer
     run(list, Work::Merge, 2, m, out)
 }
 
-// A tile of zoom above the minimum is dropped where the list holds an ancestor of it more than the minimum zoom above its parent; then
-// passes of merging until nothing changes.
+// A tile of a zoom z above the minimum m is dropped where the list holds an ancestor of it of zoom z - 1 - m or less; then passes of
+// merging until nothing changes.
 pub fn simplify_v1(list: &[u64], minzoom: OptionU8, out: &mut [u64]) -> Count
     ensures { λ r. ⌜ left r (now (out .exit)) ≡ simplifyV1Of (now (list .entry)) (given minzoom 0) (now (out .entry)) ⌝ }
 {

@@ -1,11 +1,10 @@
 -- `nori_merge` is the library's `merge`.
 use mathlib.Core.Path.{_≡_, refl, sym, ap, _∙_}
-use mathlib.Core.Bool.{Bool, true, false}
+use mathlib.Core.Bool.{Bool, true, false, cond}
 use Prim.Native.Nat.{ℕ}
-use Rattle.exports.specs.Exported.{isTrue, givenMerge}
+use Rattle.exports.specs.Exported.{givenMerge, inNumbers}
 use Rattle.merge.specs.Merge.{mergedLeft}
 use Rattle.merge.specs.declared.MergeAnswer.{MergeAnswer}
-use Rattle.merge.specs.declared.MergeAnswer.the-variants.{Found}
 use mir.Val.{boolByte}
 use borrow.Author.Needs.{needs}
 use Rattle.exports.proofs.nori_merge.Statement.{statement}
@@ -15,10 +14,10 @@ use Rattle.exports.proofs.nori_merge.Lts as lts
 use Rattle.errors.proofs.number.Reads as number-reads
 use Rattle.merge.proofs.merge.Reads as merge-reads
 
--- a bool goes out as 0 or 1, and is read so
-read-back : (b : Bool) → isTrue (boolByte b) ≡ b
-read-back true = refl
-read-back false = refl
+-- a bool goes out as 1 or 0
+as-number : (b : Bool) → boolByte b ≡ cond b 1 0
+as-number true = refl
+as-number false = refl
 
 -- src/lib.rt:13:11
 merge-requires : tie.Need-merge-requires
@@ -49,7 +48,8 @@ returns : tie.Need-returns
 returns c =
     let r = c .before .before .before .before .before .before .merge in
     let v = c .before .before .merged .given .0 .0 in
-    ap (λ (b : Bool). mergedLeft (Found (record { count = v .count; changed = b })) (r .last .1 .1 .0)) (read-back (v .changed)) ∙ (sym (ap (λ (a : MergeAnswer). mergedLeft a (r .last .1 .1 .0)) (c .before .before .merged .given .1)) ∙ r .ensures)
+    ap (λ (n : ℕ). givenMerge 0 (v .count) n (r .last .1 .1 .0)) (as-number (v .changed))
+    ∙ ap inNumbers (sym (ap (λ (a : MergeAnswer). mergedLeft a (r .last .1 .1 .0)) (c .before .before .merged .given .1)) ∙ r .ensures)
 
 -- src/lib.rt:9:1
 same-length-2 : tie.Need-same-length-2
@@ -59,7 +59,8 @@ same-length-2 c = search needs
 returns-2 : tie.Need-returns-2
 returns-2 c =
     let r = c .before .before .before .before .before .before .merge in
-    ap (λ (n : ℕ). givenMerge n 0 0 (r .last .1 .1 .0)) (c .number .ensures) ∙ (sym (ap (λ (a : MergeAnswer). mergedLeft a (r .last .1 .1 .0)) (c .before .before .why .given .1)) ∙ r .ensures)
+    ap (λ (n : ℕ). givenMerge n 0 0 (r .last .1 .1 .0)) (c .number .ensures)
+    ∙ ap inNumbers (sym (ap (λ (a : MergeAnswer). mergedLeft a (r .last .1 .1 .0)) (c .before .before .why .given .1)) ∙ r .ensures)
 
 pub nori-merge-spec : {M : Type 1} → statement M
 nori-merge-spec =
