@@ -47,6 +47,12 @@ pub enum Count {
     Refused(Refusal),
 }
 
+// What a call that tells yes or no answers.
+pub enum BoolAnswer {
+    Told(bool),
+    Refused(Refusal),
+}
+
 // What a call that gives a number answers.
 pub enum U32Answer {
     Number(u32),

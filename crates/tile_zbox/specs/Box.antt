@@ -10,8 +10,6 @@ use Rattle.tile_zbox.specs.declared.TileZBox.{TileZBox}
 use Rattle.tile_zbox.specs.declared.Extent.{Extent}
 use Rattle.tile_zbox.specs.declared.BoxAnswer.{BoxAnswer}
 use Rattle.tile_zbox.specs.declared.BoxAnswer.the-variants as box
-use Rattle.tile_zbox.specs.declared.BoolAnswer.{BoolAnswer}
-use Rattle.tile_zbox.specs.declared.BoolAnswer.the-variants as bool
 use Rattle.tile_zbox.specs.declared.ExtentAnswer.{ExtentAnswer}
 use Rattle.tile_zbox.specs.declared.ExtentAnswer.the-variants as extent
 
@@ -45,10 +43,6 @@ boxRefusal b = 1 when ltb maxZoom (b .zoom) else 10 when wrongEdges b
 abbrev pub boxCase : BoxAnswer → Answer TileZBox
 boxCase (box.Found b) = record { number = 0; value = b }
 boxCase (box.Refused why) = refusedAs why noBox
-
-abbrev pub boolCase : BoolAnswer → Answer Bool
-boolCase (bool.Told b) = record { number = 0; value = b }
-boolCase (bool.Refused why) = refusedAs why false
 
 abbrev pub extentAt : ℕ → ℕ → Extent
 extentAt across down = record { across = across; down = down }

@@ -2,6 +2,7 @@
 use constants::MAX_BOXES;
 use constants::MAX_ENTRIES;
 use constants::MAX_ZOOM;
+use errors::BoolAnswer;
 use errors::Check;
 use errors::Count;
 use errors::Refusal;
@@ -17,11 +18,11 @@ ghost use lib.ListN.{length, drop, getD};
 ghost use lib.Seq.{sets};
 ghost use Rattle.bits.specs.Tests.{allOf, anyOf};
 ghost use Rattle.constants.specs.Limits.{maxZoom};
-ghost use Rattle.errors.specs.Cases.{checkNumber, u32Case, u64Case, left};
+ghost use Rattle.errors.specs.Cases.{checkNumber, boolCase, u32Case, u64Case, left};
 ghost use Rattle.ids.specs.Entry.{entryTile, entryRefusal, isEntry};
 ghost use Rattle.tile.specs.OnMap.{tileAt};
 ghost use Rattle.tile_zbox.specs.Around.{ofZoom, listRefusal, grown, boxAround, fromTilesOf};
-ghost use Rattle.tile_zbox.specs.Box.{IsBox, wrongRun, wrongEdges, boxRefusal, boxCase, boolCase, extentCase, newOf, fromTileOf, inRun, inBox, containsPlaced, containsOf, flipped, flipOf, zoomedBy, zoomInOf, zoomDepthOf, columnsOf, rowsOf, boxLength, lengthOf, dxOf, dyOf, dxdyOf, dimensionsOf};
+ghost use Rattle.tile_zbox.specs.Box.{IsBox, wrongRun, wrongEdges, boxRefusal, boxCase, extentCase, newOf, fromTileOf, inRun, inBox, containsPlaced, containsOf, flipped, flipOf, zoomedBy, zoomInOf, zoomDepthOf, columnsOf, rowsOf, boxLength, lengthOf, dxOf, dyOf, dxdyOf, dimensionsOf};
 ghost use Rattle.tile_zbox.specs.Boxes.{deep, boxFrom, boxesOf, boxesRefusal, sumLengths, boxesLengthOf, numbers, flippedNumbers, boxesFlipOf};
 ghost use Rattle.tile_zbox.specs.Cursor.{cursorAt, kthTile, nextCase, stepFrom, nextOf};
 
@@ -36,11 +37,6 @@ pub struct TileZBox {
 // What a call that gives a box answers.
 pub enum BoxAnswer {
     Found(TileZBox),
-    Refused(Refusal),
-}
-
-pub enum BoolAnswer {
-    Told(bool),
     Refused(Refusal),
 }
 
