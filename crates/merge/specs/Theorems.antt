@@ -19,6 +19,7 @@ use Rattle.tile_set.specs.Holds.{Holds}
 use Rattle.tile_set.specs.InOrder.{Ordered, in-order-of, in-order-in, in-order-ordered}
 use Rattle.tile_set.specs.Merged.{Within, is-false, bool-ext, merged-within, passes-within}
 use Rattle.tile_set.specs.Set.{inOrder, joins, whole, merged, uncovered, simplified, simplifiedV1}
+use Rattle.tile_set.specs.Simplified.{simplified-within}
 use Rattle.tile_set.specs.Theorems.{ground, merge-keeps-ground, simplify-keeps-ground, simplify-still, simplify-v1-keeps-ground, simplify-v1-still, merge-changes, merge-takes, settled-at-0}
 use Rattle.tile_set.specs.Uncovered.{uncovered-within}
 use Rattle.merge.specs.Laws.{joins-in}
@@ -127,9 +128,8 @@ module _ (list : List ℕ) (accepted : allOf isEntry list ≡ true) (m : ℕ) wh
   abbrev pub simplifiedV1List : List ℕ
   simplifiedV1List = entriesInOrder (simplifiedV1 maxZoom m its)
 
-  simplified-within : Within maxZoom (simplified maxZoom m its)
-  unfolding simplified
-  simplified-within = passes-within maxZoom m (uncovered 0 its) (uncovered-within 0 its its-within)
+  its-simplified-within : Within maxZoom (simplified maxZoom m its)
+  its-simplified-within = simplified-within m its its-within
 
   simplified-v1-within : Within maxZoom (simplifiedV1 maxZoom m its)
   unfolding simplifiedV1
@@ -139,7 +139,7 @@ module _ (list : List ℕ) (accepted : allOf isEntry list ≡ true) (m : ℕ) wh
   pub simplify-is-a-fixed-point : (entriesInOrder (merged m (listed simplifiedList)) ≡ simplifiedList) × (mergeChanges m simplifiedList ≡ false)
   simplify-is-a-fixed-point =
       let still = simplify-still m its its-within in
-      (merged-again m (simplified maxZoom m its) simplified-within still, unchanged m (simplified maxZoom m its) simplified-within still)
+      (merged-again m (simplified maxZoom m its) its-simplified-within still, unchanged m (simplified maxZoom m its) its-simplified-within still)
 
   pub simplify-v1-is-a-fixed-point : (entriesInOrder (merged m (listed simplifiedV1List)) ≡ simplifiedV1List) × (mergeChanges m simplifiedV1List ≡ false)
   simplify-v1-is-a-fixed-point =
@@ -149,7 +149,7 @@ module _ (list : List ℕ) (accepted : allOf isEntry list ≡ true) (m : ℕ) wh
   -- "Ground": the zoom-29 tiles inside are the same
   pub simplify-keeps-the-ground : (X Y : ℕ) → ground maxZoom its X Y ↔ ground maxZoom (listed simplifiedList) X Y
   simplify-keeps-the-ground X Y =
-      rw (an-answer-names-its-set (simplified maxZoom m its) simplified-within) (simplify-keeps-ground m its its-within X Y)
+      rw (an-answer-names-its-set (simplified maxZoom m its) its-simplified-within) (simplify-keeps-ground m its its-within X Y)
 
   pub simplify-v1-keeps-the-ground : (X Y : ℕ) → ground maxZoom its X Y ↔ ground maxZoom (listed simplifiedV1List) X Y
   simplify-v1-keeps-the-ground X Y =

@@ -1,6 +1,8 @@
 -- Which tile stands inside which: a tile holds itself and its descendants. And which tiles are of the map, whose deepest zoom is D.
 use mathlib.Core.Path.{_≡_, refl, sym, ap, _∙_, subst}
+use mathlib.Core.Logic.{_⊎_, inl, inr}
 use Prim.Native.Nat.{ℕ, zero, suc, _+_, _-_, _*_, _/_, _%_, _^_, _≤_, _<_}
+use native.Mathlib.Decide.{decLe}
 use native.Mathlib.Nat.{div-one, sub-self, pow-zero, pow-suc}
 use native.Mathlib.Omega.{arith}
 use lib.Pow.{shr-shr, shr-lt}
@@ -72,6 +74,42 @@ cut {p} {t} h l =
 
     part : (n x : ℕ) → n / 2 ^ (t .z - p .z) ≡ x → n / 2 ^ (t .z - suc (p .z)) ≡ 2 * x + digit n
     part n x e = omega (arith, half n)
+
+-- what holds of each of the four
+pub by-quarter : (P : ℕ → ℕ → Type 0) → P 0 0 → P 0 1 → P 1 0 → P 1 1 → (i j : ℕ) → i < 2 → j < 2 → P i j
+by-quarter P a b c d zero zero h k = a
+by-quarter P a b c d zero (suc zero) h k = b
+by-quarter P a b c d (suc zero) zero h k = c
+by-quarter P a b c d (suc zero) (suc zero) h k = d
+by-quarter P a b c d zero (suc (suc j)) h k = absurd (omega arith)
+by-quarter P a b c d (suc zero) (suc (suc j)) h k = absurd (omega arith)
+by-quarter P a b c d (suc (suc i)) j h k = absurd (omega arith)
+
+-- a tile whose four children are held by tiles of a kind is held by one of that kind, unless the four are of it themselves
+pub held-by-four : (P : Tile → Type 0) (p : Tile) → (P (child p 0 0) → P (child p 0 1) → P (child p 1 0) → P (child p 1 1) → ⊥)
+    → ((i j : ℕ) → i < 2 → j < 2 → (r : Tile) × P r × Holds r (child p i j)) → (r : Tile) × P r × Holds r p
+held-by-four P p none held =
+    four (up 0 0 (omega arith) (omega arith)) (up 0 1 (omega arith) (omega arith)) (up 1 0 (omega arith) (omega arith)) (up 1 1 (omega arith) (omega arith))
+  where
+    Held : Type 0
+    Held = (r : Tile) × P r × Holds r p
+
+    up : (i j : ℕ) → i < 2 → j < 2 → P (child p i j) ⊎ Held
+    up i j x y = pick (held i j x y)
+      where
+        pick : (r : Tile) × P r × Holds r (child p i j) → P (child p i j) ⊎ Held
+        pick (r, e, h) = level (decLe (r .z) (p .z))
+          where
+            level : Dec (r .z ≤ p .z) → P (child p i j) ⊎ Held
+            level (yes k) = inr (r, e, holds-both h (child-held p i j x y) k)
+            level (no k) = inl (subst P (holds-level h (omega arith)) e)
+
+    four : P (child p 0 0) ⊎ Held → P (child p 0 1) ⊎ Held → P (child p 1 0) ⊎ Held → P (child p 1 1) ⊎ Held → Held
+    four (inr r) b c d = r
+    four (inl a) (inr r) c d = r
+    four (inl a) (inl b) (inr r) d = r
+    four (inl a) (inl b) (inl c) (inr r) = r
+    four (inl a) (inl b) (inl c) (inl d) = absurd (none a b c d)
 
 pub parent-holds : (t : Tile) → 0 < t .z → Holds (parentTile t) t
 parent-holds t h = let e : t .z - (t .z - 1) ≡ 1 = omega arith in record { above = omega arith; inx = rw e; iny = rw e }

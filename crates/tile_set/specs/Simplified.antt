@@ -1,13 +1,12 @@
 -- What `simplify` makes of a set, by four properties that only one set has.
 use mathlib.Core.Path.{_≡_, sym, ap, _∙_, subst}
-use mathlib.Core.Logic.{_⊎_, inl, inr, ⊎-elim}
+use mathlib.Core.Logic.{⊎-elim}
 use mathlib.Core.Bool.{Bool, true}
 use Prim.Native.Nat.{ℕ, zero, suc, _≤_, _<_}
-use native.Mathlib.Decide.{decLe}
 use native.Mathlib.Omega.{arith}
 use Rattle.tile.specs.declared.Tile.{Tile}
-use Rattle.tile_set.specs.Holds.{Holds, holds-trans, holds-both, holds-level, holds-antisym, child-held}
-use Rattle.tile_set.specs.Merged.{Within, Covers, Apart, bool-ext, covers-trans, joined-when, joined-four, merged-cases, passes-covers, passes-apart}
+use Rattle.tile_set.specs.Holds.{Holds, holds-trans, holds-antisym, by-quarter, held-by-four}
+use Rattle.tile_set.specs.Merged.{Within, Covers, Apart, bool-ext, covers-trans, joined-when, joined-four, merged-cases, passes-within, passes-covers, passes-apart}
 use Rattle.tile_set.specs.Merged.{no-four as passes-no-four}
 use Rattle.tile_set.specs.Set.{child, whole, joined as is-joined, merged, passes, uncovered, simplified}
 use Rattle.tile_set.specs.Uncovered.{uncovered-of, uncovered-covers, uncovered-apart, uncovered-within}
@@ -40,6 +39,10 @@ unfolding passes
 passes-built R f zero t e = f t e
 passes-built {m} R f (suc n) t e = merged-built (passes n m R) (passes-built R f n) t e
 
+pub simplified-within : {D : ℕ} (m : ℕ) (S : Tile → Bool) → Within D S → Within D (simplified D m S)
+unfolding simplified
+simplified-within {D} m S w = passes-within D m (uncovered 0 S) (uncovered-within 0 S w)
+
 pub simplified-simplest : {D : ℕ} (m : ℕ) (S : Tile → Bool) → Within D S → Simplest m S (simplified D m S)
 unfolding simplified
 simplified-simplest {D} m S w = record {
@@ -54,26 +57,8 @@ module _ {m : ℕ} {S : Tile → Bool} where
   built-held : {R : Tile → Bool} → Simplest m S R → {t : Tile} → Built m S t → (r : Tile) × (R r ≡ true) × Holds r t
   built-held G (listed e) = G .covers _ e
   built-held {R} G (joined {p = p} l a b c d) =
-      four (up 0 0 (omega arith) (omega arith) (built-held G a)) (up 0 1 (omega arith) (omega arith) (built-held G b))
-      (up 1 0 (omega arith) (omega arith) (built-held G c)) (up 1 1 (omega arith) (omega arith) (built-held G d))
-    where
-      Held : Tile → Type 0
-      Held t = (r : Tile) × (R r ≡ true) × Holds r t
-
-      up : (i j : ℕ) → i < 2 → j < 2 → Held (child p i j) → (R (child p i j) ≡ true) ⊎ Held p
-      up i j x y (r, e, h) = pick (decLe (r .z) (p .z))
-        where
-          pick : Dec (r .z ≤ p .z) → (R (child p i j) ≡ true) ⊎ Held p
-          pick (yes k) = inr (r, e, holds-both h (child-held p i j x y) k)
-          pick (no k) = inl (sym (ap R (holds-level h (omega arith))) ∙ e)
-
-      four : (R (child p 0 0) ≡ true) ⊎ Held p → (R (child p 0 1) ≡ true) ⊎ Held p → (R (child p 1 0) ≡ true) ⊎ Held p
-          → (R (child p 1 1) ≡ true) ⊎ Held p → Held p
-      four (inr r) b c d = r
-      four (inl a) (inr r) c d = r
-      four (inl a) (inl b) (inr r) d = r
-      four (inl a) (inl b) (inl c) (inr r) = r
-      four (inl a) (inl b) (inl c) (inl d) = absurd (G .no-four p l (rw (a, b, c, d)))
+      held-by-four (λ t. R t ≡ true) p (λ u v x y. G .no-four p l (rw (u, v, x, y)))
+      (by-quarter (λ i j. (r : Tile) × (R r ≡ true) × Holds r (child p i j)) (built-held G a) (built-held G b) (built-held G c) (built-held G d))
 
   simplest-in : {R Q : Tile → Bool} → Simplest m S R → Simplest m S Q → (t : Tile) → R t ≡ true → Q t ≡ true
   simplest-in {R} {Q} G H t e =

@@ -1,0 +1,5 @@
+pub mod Ground
+pub mod Cells
+pub mod Largest
+pub mod Members
+pub mod Theorems
