@@ -1,8 +1,8 @@
 -- Tests that are joined, two of them or one for each entry of a list: what holds of each.
-use mathlib.Core.Path.{_≡_, refl, ap}
-use mathlib.Core.Bool.{Bool, true, false, not, _&&_, _||_}
+use mathlib.Core.Path.{_≡_, refl, sym, ap}
+use mathlib.Core.Bool.{Bool, true, false, not, _&&_, _||_, or-assoc}
 use mathlib.Core.Logic.{_⊎_, inl, inr}
-use mathlib.Core.List.{List, [], _∷_, map, List·Memᴰ, List·Memᴰ·head, List·Memᴰ·tail, List·Memᴰ·not-nil, List·Memᴰ·cases-cons}
+use mathlib.Core.List.{List, [], _∷_, _++_, map, List·Memᴰ, List·Memᴰ·head, List·Memᴰ·tail, List·Memᴰ·not-nil, List·Memᴰ·cases-cons}
 use Prim.Native.Nat.{ℕ, zero, suc, _+_, _≤_, _<_}
 use native.Mathlib.Numerals.{add-one}
 use native.Mathlib.Omega.{arith}
@@ -87,6 +87,11 @@ any-in {A} p (b ∷ l) e = pick (p b) refl e (any-in p l)
         → (a : A) × List·Memᴰ a (b ∷ l) × (p a ≡ true)
     pick true f g below = (b, List·Memᴰ·head refl, f)
     pick false f g below = let s = below g in (s .0, List·Memᴰ·tail (s .1), s .2)
+
+pub any-append : {A : Type 0} (p : A → Bool) (a b : List A) → anyOf p (a ++ b) ≡ anyOf p a || anyOf p b
+unfolding anyOf
+any-append p [] b = refl
+any-append p (x ∷ a) b = rw (any-append p a b) (sym (or-assoc (p x) (anyOf p a) (anyOf p b)))
 
 -- what is in a list whose entries are mapped
 pub in-map : {A B : Type 0} (f : A → B) {b : B} (l : List A) → List·Memᴰ b (map f l) → (a : A) × List·Memᴰ a l × (b ≡ f a)

@@ -1,10 +1,10 @@
 -- From the tiles of a set, in any order and some of them twice, to the set as a list: their ranks in order, each once, are its entries.
 use mathlib.Core.Path.{_≡_, refl, sym, ap, _∙_}
 use mathlib.Core.Bool.{Bool, true}
-use mathlib.Core.List.{List, [], _∷_, _++_, map, List·Memᴰ, List·Memᴰ·head, List·Memᴰ·tail, Memᴰ·cast}
+use mathlib.Core.List.{List, [], _∷_, _++_, map, append-assoc, List·Memᴰ, List·Memᴰ·head, List·Memᴰ·tail, Memᴰ·cast}
 use Prim.Native.Nat.{ℕ, _-_, _≤_}
 use native.Mathlib.Omega.{arith}
-use lib.ListN.{length, take, replicate, length-append, length-map, length-replicate}
+use lib.ListN.{length, take, drop, replicate, length-append, length-map, length-replicate}
 use lib.Seq.{length-take-le, take-append-le, take-at}
 use Rattle.bits.specs.Tests.{in-map, into-map}
 use Rattle.constants.specs.Limits.{maxZoom}
@@ -19,7 +19,7 @@ use Rattle.tile.specs.declared.Tile.{Tile}
 use Rattle.tile_set.specs.Holds.{Valid}
 use Rattle.tile_set.specs.InOrder.{Ordered, in-order-is}
 use Rattle.tile_list.specs.Laws.{named-by, names, map-tile, named-within}
-use Rattle.tile_list.specs.List.{named, entriesInOrder}
+use Rattle.tile_list.specs.List.{named, entriesInOrder, filled}
 
 -- tiles, by their ranks, as a list
 abbrev pub finished : List Tile → List ℕ
@@ -130,3 +130,13 @@ finish-listed placed keys part memory r rest h k e f = record {
         let g : r ≤ length (part ++ rest) = rw (length-append part rest) (omega arith) in
         ap length f ∙ (length-append (take r (part ++ rest)) (replicate (length (part ++ rest) - r) 0)
         ∙ rw (length-take-le r (part ++ rest) g, length-replicate {A = ℕ} (length (part ++ rest) - r) 0) (omega arith))
+
+-- the answer stands in the part of the memory that was asked for
+pub listed-filled : {S : Tile → Bool} {after : List ℕ} {count : ℕ} (places : ℕ) (memory : List ℕ) → Listed S after count → length after ≡ places
+    → after ++ drop places memory ≡ filled places (entriesInOrder S) memory
+listed-filled {S} {after} {count} places memory l e =
+    ap (λ (k : List ℕ). k ++ drop places memory) (l .left ∙ ap (λ (n : ℕ). entriesInOrder S ++ replicate n 0) room)
+    ∙ append-assoc (entriesInOrder S) (replicate (places - length (entriesInOrder S)) 0) (drop places memory)
+  where
+    room : length after - count ≡ places - length (entriesInOrder S)
+    room = rw (e, l .counted)

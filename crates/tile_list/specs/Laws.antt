@@ -1,12 +1,15 @@
 -- Laws of the tiles that a list names.
 use mathlib.Core.Path.{_≡_, refl, sym, ap, _∙_}
-use mathlib.Core.Bool.{Bool, true}
+use mathlib.Core.Bool.{Bool, true, false, not}
 use mathlib.Core.List.{List, map, List·Memᴰ}
 use Prim.Native.Nat.{ℕ}
-use lib.Dec.{eqb}
+use native.Mathlib.Omega.{arith}
+use lib.Dec.{eqb, ltb}
+use lib.ListN.{length}
 use borrow.Author.Tests.{eq-eqb, eqb-true}
 use Rattle.bits.specs.Tests.{and-parts, allOf, all-in, in-any, any-in, in-map, into-map}
-use Rattle.constants.specs.Limits.{maxZoom}
+use Rattle.constants.specs.Limits.{maxZoom, maxEntries}
+use Rattle.errors.specs.Answer.{_when_, _else_}
 use Rattle.ids.specs.Entry.{entryTile, isEntry, accepted-entry}
 use Rattle.quadtree.specs.Lists.{sortKey, sortTile, entryKey, key-tile, TileNumbers}
 use Rattle.quadtree.specs.Numbers.{OfMap}
@@ -16,7 +19,7 @@ use Rattle.tile.specs.Order.{tile-ext}
 use Rattle.tile.specs.declared.Tile.{Tile}
 use Rattle.tile_set.specs.Holds.{Valid}
 use Rattle.tile_set.specs.Merged.{Within, bool-ext}
-use Rattle.tile_list.specs.List.{same, named, listed}
+use Rattle.tile_list.specs.List.{same, named, listed, listRefusal}
 
 pub same-tile : (s t : Tile) → same s t ≡ true → s ≡ t
 same-tile s t e =
@@ -50,12 +53,22 @@ named-within placed l h t e =
     let f : t ≡ u .tile = sym (s .2) ∙ (ap (sortTile placed) (sym (u .number)) ∙ key-tile placed (u .tile) (u .on-map)) in
     rw f (valid-tile (u .tile) (u .on-map))
 
+-- a list that is not refused is one of entries
+pub accepted-entries : (list : List ℕ) → listRefusal list ≡ 0 → allOf isEntry list ≡ true
+unfolding listRefusal
+accepted-entries list e = pick (ltb maxEntries (length list)) (allOf isEntry list) e
+  where
+    pick : (many all : Bool) → 6 when many else 7 when not all ≡ 0 → all ≡ true
+    pick true all e = absurd (omega arith)
+    pick false true e = refl
+    pick false false e = absurd (omega arith)
+
 -- the entries of a list that is not refused name tiles of the map
+pub entry-map : (list : List ℕ) → allOf isEntry list ≡ true → (n : ℕ) → List·Memᴰ n list → OfMap (entryTile n)
+entry-map list e n m = accepted-entry n (eqb-true _ _ (all-in isEntry list e m))
+
 pub listed-within : (list : List ℕ) → allOf isEntry list ≡ true → Within maxZoom (listed list)
-listed-within list e t h =
-    let s = named-by entryTile list t h in
-    let o = accepted-entry (s .0) (eqb-true _ _ (all-in isEntry list e (s .1))) in
-    rw (← s .2) (valid-tile (entryTile (s .0)) o)
+listed-within list e t h = let s = named-by entryTile list t h in rw (← s .2) (valid-tile (entryTile (s .0)) (entry-map list e (s .0) (s .1)))
 
 -- lists that name the same tiles are one set
 pub same-named : (f g : ℕ → Tile) (a b : List ℕ) → ((n : ℕ) → List·Memᴰ n a → (k : ℕ) × List·Memᴰ k b × (g k ≡ f n))
@@ -80,9 +93,6 @@ sort-numbers f l h n m = h n (sort-in l m)
 
 pub once-numbers : (f : Tile → ℕ) (l : List ℕ) → TileNumbers f l → TileNumbers f (onceOf l)
 once-numbers f l h n m = h n (once-in l m)
-
-entry-map : (list : List ℕ) → allOf isEntry list ≡ true → (n : ℕ) → List·Memᴰ n list → OfMap (entryTile n)
-entry-map list e n m = accepted-entry n (eqb-true _ _ (all-in isEntry list e m))
 
 -- the keys of a list that is not refused name the tiles that the list names
 pub keys-named : (placed : Bool) (list : List ℕ) → allOf isEntry list ≡ true → named (sortTile placed) (map (entryKey placed) list) ≡ listed list

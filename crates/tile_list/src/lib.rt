@@ -7,23 +7,24 @@ ghost use Rattle.quadtree.specs.Lists.{sortKey, sortTile, TileNumbers};
 ghost use Rattle.tile_list.specs.Finish.{finished, Listed};
 ghost use Rattle.tile_list.specs.List.{named};
 
-// The first `count` keys become the list of their tiles. The answer says how many entries that is.
+// The first `count` keys become the list of their tiles. The answer says how many entries that is. Scratch may be of any length;
+// with a place for each key the sort is faster.
 pub fn finish(keys: &mut [u64], count: usize, scratch: &mut [u64], placed: bool) -> usize
-    requires { ⌜ (count ≤ length (now keys)) × (length (now keys) ≡ length (now scratch)) ⌝ }
+    requires { ⌜ count ≤ length (now keys) ⌝ }
     requires { ⌜ TileNumbers (sortKey placed) (take count (now keys)) ⌝ }
     ensures { λ r. ⌜ Listed (named (sortTile placed) (take count (now (keys .entry)))) (now (keys .exit)) r ⌝ }
 {
-    let listed = entries(&mut keys[..count], &mut scratch[..count], placed);
+    let listed = entries(&mut keys[..count], scratch, placed);
     sort::clear(keys, listed);
     listed
 }
 
 fn entries(keys: &mut [u64], scratch: &mut [u64], placed: bool) -> usize
-    requires { ⌜ TileNumbers (sortKey placed) (now keys) × (length (now keys) ≡ length (now scratch)) ⌝ }
+    requires { ⌜ TileNumbers (sortKey placed) (now keys) ⌝ }
     ensures { λ r. ⌜ (r ≤ length (now (keys .exit))) × (take r (now (keys .exit)) ≡ finished (map (sortTile placed) (now (keys .entry)))) ⌝ }
 {
     quadtree::ranks(keys, placed);
-    sort::sort(keys, scratch);
+    exchange::sort(keys, scratch);
     let once = sort::once(keys);
     quadtree::entries(&mut keys[..once]);
     once

@@ -10,7 +10,7 @@ use Rattle.tile_list.proofs.entries.Lts as lts
 use Rattle.quadtree.proofs.entries.Reads as entries-reads
 use Rattle.quadtree.proofs.ranks.Reads as ranks-reads
 use Rattle.sort.proofs.once.Reads as once-reads
-use Rattle.sort.proofs.sort.Reads as sort-reads
+use Rattle.exchange.proofs.sort.Reads as sort-reads
 
 -- src/lib.rt:25:5
 ranks-requires : tie.Need-ranks-requires
@@ -36,7 +36,7 @@ slice-aggregate-entries c = let o = c .before .before .before .once in sym (leng
 entries-requires : tie.Need-entries-requires
 entries-requires c κs =
     let a = c .before .before .before .before .before .before .before .before .before .before .before .before .before .before .before .before .before .before .args in
-    front-ranks (a .placed) (a .keys .now) _ _ _ _ (c .before .before .before .before .before .before .before .before .before .before .before .before .before .before .before .before .before .before .pre .0) (c .before .before .before .before .before .before .before .before .before .before .before .before .before .before .ranks .ensures) (c .before .before .before .before .before .before .before .before .before .sort .ensures) (c .before .before .before .once .ensures)
+    front-ranks (a .placed) (a .keys .now) _ _ _ _ (c .before .before .before .before .before .before .before .before .before .before .before .before .before .before .before .before .before .before .pre) (c .before .before .before .before .before .before .before .before .before .before .before .before .before .before .ranks .ensures) (c .before .before .before .before .before .before .before .before .before .sort .ensures) (c .before .before .before .once .ensures)
 
 -- src/lib.rt:21:1
 same-length : tie.Need-same-length
@@ -50,7 +50,7 @@ same-length-2 c = search needs
 returns : tie.Need-returns
 returns c =
     let a = c .before .before .before .before .before .before .before .before .before .before .before .before .before .before .before .before .before .before .before .before .before .args in
-    front-entries (a .placed) (a .keys .now) _ _ _ _ (c .before .before .before .before .before .before .before .before .before .before .before .before .before .before .before .before .before .before .before .before .before .pre .0) (c .before .before .before .before .before .before .before .before .before .before .before .before .before .before .before .before .before .ranks .ensures) (c .before .before .before .before .before .before .before .before .before .before .before .before .sort .ensures) (c .before .before .before .before .before .before .once .ensures) _ _ (c .before .before .entries .ensures)
+    front-entries (a .placed) (a .keys .now) _ _ _ _ (c .before .before .before .before .before .before .before .before .before .before .before .before .before .before .before .before .before .before .before .before .before .pre) (c .before .before .before .before .before .before .before .before .before .before .before .before .before .before .before .before .before .ranks .ensures) (c .before .before .before .before .before .before .before .before .before .before .before .before .sort .ensures) (c .before .before .before .before .before .before .once .ensures) _ _ (c .before .before .entries .ensures)
 
 pub entries-spec : {M : Type 1} → statement M
 entries-spec =

@@ -1,5 +1,5 @@
 -- `finish`: the entries at the front, and zeros behind them.
-use mathlib.Core.Path.{sym, _∙_}
+use mathlib.Core.Path.{sym}
 use native.Mathlib.Omega.{arith}
 use lib.ListN.{length-append}
 use lib.Seq.{length-take-le}
@@ -18,23 +18,11 @@ slice-relend-prefix-entries c = search needs
 
 -- src/lib.rt:16:26
 slice-aggregate-entries : tie.Need-slice-aggregate-entries
-slice-aggregate-entries c = let a = c .before .before .before .args in sym (length-take-le (a .count) (a .keys .now) (c .before .before .before .pre .0 .0))
-
--- src/lib.rt:16:46
-slice-relend-prefix-entries-2 : tie.Need-slice-relend-prefix-entries-2
-slice-relend-prefix-entries-2 c = search needs
-
--- src/lib.rt:16:46
-slice-aggregate-entries-2 : tie.Need-slice-aggregate-entries-2
-slice-aggregate-entries-2 c =
-    let a = c .before .before .before .before .args in let p = c .before .before .before .before .pre .0 in sym (length-take-le (a .count) (a .scratch .now) (omega (arith, p .0, p .1)))
+slice-aggregate-entries c = let a = c .before .before .before .args in sym (length-take-le (a .count) (a .keys .now) (c .before .before .before .pre .0))
 
 -- src/lib.rt:16:9
 entries-requires : tie.Need-entries-requires
-entries-requires c κs =
-    let a = c .before .before .before .before .args in
-    let p = c .before .before .before .before .pre .0 in
-    (c .before .before .before .before .pre .1, length-take-le (a .count) (a .keys .now) (p .0) ∙ sym (length-take-le (a .count) (a .scratch .now) (omega (arith, p .0, p .1))))
+entries-requires c κs = search needs
 
 -- src/lib.rt:17:5
 clear-requires : tie.Need-clear-requires
@@ -61,8 +49,6 @@ finish-spec =
     (tie.spec
     slice-relend-prefix-entries
     slice-aggregate-entries
-    slice-relend-prefix-entries-2
-    slice-aggregate-entries-2
     entries-requires
     clear-requires
     same-length
