@@ -1,8 +1,8 @@
 -- The walk in the middle of a list: which tiles of those read stay, and which tops are passed.
 use mathlib.Core.Path.{_≡_, refl, sym, ap, _∙_}
 use mathlib.Core.Bool.{Bool, true}
-use mathlib.Core.List.{List, [], _∷_}
-use Prim.Native.Nat.{ℕ, zero, suc, _+_, _/_, _^_, _≤_, _<_}
+use mathlib.Core.List.{List}
+use Prim.Native.Nat.{ℕ, _+_, _/_, _^_, _≤_, _<_}
 use native.Mathlib.Decide.{decLt}
 use native.Mathlib.Omega.{arith}
 use lib.ListN.{length, take, getD, set, length-set}
@@ -11,11 +11,11 @@ use Rattle.bits.specs.Tests.{getD-in}
 use Rattle.quadtree.specs.Laws.{quad-tile}
 use Rattle.quadtree.specs.Lists.{TileNumbers}
 use Rattle.quadtree.specs.Numbers.{OfMap, quadOf, quadTile, placeOf, placeTile}
-use Rattle.settle.specs.Lists.{in-at, taken-at, at-taken, by-at}
+use Rattle.settle.specs.Lists.{in-at, taken-at, at-taken, by-at, rising-at}
 use Rattle.settle.specs.Middle.{place-at}
 use Rattle.settle.specs.Places.{endOf, low-pos, low-below, Lie, holding, held, before, after, lies, held-run, IsPlace}
 use Rattle.settle.specs.Settle.{tiles}
-use Rattle.sort.specs.Sort.{Rising, By}
+use Rattle.sort.specs.Sort.{By}
 use Rattle.tile.specs.declared.Tile.{Tile}
 use Rattle.tile_list.specs.Laws.{named-by, names}
 use Rattle.tile_list.specs.List.{named}
@@ -25,13 +25,6 @@ use Rattle.tile_set.specs.Set.{uncovered}
 use Rattle.tile_set.specs.Uncovered.{uncovered-of}
 use Rattle.ancestors.specs.Laws.{Tested, found-goes, tested-stays}
 use Rattle.ancestors.specs.Tops.{Tops, Ahead, First, Uncovers}
-
-rising-at : (l : List ℕ) → Rising l → (i j : ℕ) → i < j → j < length l → getD l i 0 < getD l j 0
-unfolding Rising
-rising-at [] r i j h k = absurd (omega arith)
-rising-at (a ∷ l) r i zero h k = absurd (omega arith)
-rising-at (a ∷ l) r zero (suc j) h k = r .0 (getD l j 0) (getD-in l j 0 (omega arith))
-rising-at (a ∷ l) r (suc i) (suc j) h k = rising-at l (r .1) i j (omega arith) (omega arith)
 
 module _ {list tops : List ℕ} (T : Tops list tops) (j : ℕ) (h : j < length tops) where
   pub top-place : IsPlace (getD tops j 0)

@@ -1,13 +1,12 @@
 -- From the code's steps to what a call answers.
 use mathlib.Core.Path.{_≡_, refl, sym, ap, _∙_, subst}
 use mathlib.Core.Bool.{Bool, true, false, not}
-use mathlib.Core.List.{List, map, _++_, append-assoc}
+use mathlib.Core.List.{List, map, _++_}
 use Prim.Native.Nat.{ℕ, zero, suc, _-_, _%_, _≤_, _<_}
 use native.Mathlib.Omega.{arith}
-use lib.ListN.{length, take, drop, replicate, length-map, length-replicate}
-use lib.Seq.{length-take-le}
+use lib.ListN.{length, drop, length-map}
 use borrow.Author.Tests.{lt-ltb, le-ltb}
-use Rattle.bits.specs.Tests.{not-true, not-false, allOf, anyOf, in-any, any-in}
+use Rattle.bits.specs.Tests.{not-false, allOf, anyOf, in-any, any-in}
 use Rattle.constants.specs.Limits.{maxZoom, maxEntries}
 use Rattle.errors.specs.Answer.{Answer, Lent}
 use Rattle.errors.specs.Cases.{countCase, left}
@@ -19,7 +18,7 @@ use Rattle.families.specs.declared.Joined.{Joined}
 use Rattle.quadtree.specs.Numbers.{placeTile}
 use Rattle.quadtree.specs.Lists.{sortTile, entryKey, Keyed}
 use Rattle.tile.specs.declared.Tile.{Tile}
-use Rattle.tile_list.specs.Finish.{Listed}
+use Rattle.tile_list.specs.Finish.{Listed, listed-filled}
 use Rattle.tile_list.specs.Laws.{named-by, keys-named}
 use Rattle.tile_list.specs.List.{named, listed, entriesInOrder, listRefusal, placesRefusal, filled, listAnswer}
 use Rattle.tile_set.specs.Holds.{child-of-parent}
@@ -58,16 +57,9 @@ changed-says Merge m list true c =
 changed-says SimplifyV1 m list b c = c
 changed-says Simplify m list b c = c
 
--- what the keys of a list tell
-module _ (placed fine : Bool) (list left : List ℕ) (k : Keyed placed list left fine) where
-  pub keys-refused : not fine ≡ true → false ≡ allOf isEntry list
-  keys-refused e = sym (not-true fine e) ∙ k .answer
-
-  pub keys-fine : not fine ≡ false → true ≡ allOf isEntry list
-  keys-fine e = sym (not-false fine e) ∙ k .answer
-
-  pub keys-left : (work : Work) → not fine ≡ false → placed ≡ sortedBy work → left ≡ map (entryKey (sortedBy work)) list
-  keys-left work e f = k .keys (not-false fine e) ∙ ap (λ (b : Bool). map (entryKey b) list) f
+pub keys-left : (placed fine : Bool) (list left : List ℕ) → Keyed placed list left fine → (work : Work) → not fine ≡ false → placed ≡ sortedBy work
+    → left ≡ map (entryKey (sortedBy work)) list
+keys-left placed fine list left k work e f = k .keys (not-false fine e) ∙ ap (λ (b : Bool). map (entryKey b) list) f
 
 -- the refusals, in the order of the tests
 pub too-many : (work : Work) (list : List ℕ) (m : ℕ) (memory : List ℕ) → maxEntries < length list
@@ -105,16 +97,7 @@ done work list keys m memory after r h e l k w = rw (le-ltb _ _ h, ← e, le-ltb
     value = λ i. record { count = its .counted i; changed = changed-says work m list (r .changed) (rw set at (w .changes)) i }
 
     left : after ++ drop (length list) memory ≡ filled (length list) items memory
-    left =
-        ap (λ (l : List ℕ). l ++ drop (length list) memory) (its .left ∙ ap (λ (n : ℕ). items ++ replicate n 0) room)
-        ∙ append-assoc items (replicate (length list - length items) 0) (drop (length list) memory)
-      where
-        room : length after - r .count ≡ length list - length items
-        room = rw (w .size ∙ (ap length k ∙ length-map list (entryKey (sortedBy work))), its .counted)
-
--- a part of a scratch that is n places long
-pub scratch-part : (size n : ℕ) → n ≤ size → n ≡ length (take n (replicate {A = ℕ} size 0))
-scratch-part size n h = sym (length-take-le n (replicate size 0) (rw (length-replicate {A = ℕ} size 0) h))
+    left = listed-filled (length list) memory its (w .size ∙ (ap length k ∙ length-map list (entryKey (sortedBy work))))
 
 -- each work's own promise is what is asked of it
 pub merged-worked : (work : Work) (m : ℕ) (keys after : List ℕ) (r : Joined) → work ≡ Merge → length after ≡ length keys → Merges m keys after r

@@ -1,7 +1,7 @@
 -- Lists of tiles' numbers: what the calls ask of a list, and what they leave.
 use mathlib.Core.Path.{_≡_, refl, sym, ap, subst, _∙_}
 use mathlib.Core.Logic.{_⊎_, inl, inr}
-use mathlib.Core.Bool.{Bool, true, false}
+use mathlib.Core.Bool.{Bool, true, false, not}
 use mathlib.Core.List.{List, [], _∷_, map, append-nil}
 use mathlib.Core.List.{List·Memᴰ, List·Memᴰ·head, List·Memᴰ·tail, List·Memᴰ·not-nil, List·Memᴰ·cases-cons}
 use Prim.Native.Nat.{ℕ, zero, suc, _+_, _≤_, _<_}
@@ -10,7 +10,7 @@ use native.Mathlib.Omega.{arith}
 use lib.ListN.{length, take, drop, getD, set, length-map, drop-of-length-le}
 use lib.Seq.{take-all, length-take-le, getD-drop, getD-append-add}
 use borrow.Author.Tests.{eqb-true}
-use Rattle.bits.specs.Tests.{allOf, all-in, getD-in}
+use Rattle.bits.specs.Tests.{not-true, not-false, allOf, all-in, getD-in}
 use Rattle.errors.specs.Memory.{front, front-length, front-more}
 use Rattle.ids.specs.Entry.{entryOf, entryTile, isEntry, accepted-entry}
 use Rattle.tile.specs.declared.Tile.{Tile}
@@ -57,6 +57,13 @@ pub record Keyed (placed : Bool) (list left : List ℕ) (fine : Bool) : Type 0 w
   pub keys : fine ≡ true → left ≡ map (entryKey placed) list
 
 -- laws
+
+module _ (placed fine : Bool) (list left : List ℕ) (k : Keyed placed list left fine) where
+  pub keys-refused : not fine ≡ true → false ≡ allOf isEntry list
+  keys-refused e = sym (not-true fine e) ∙ k .answer
+
+  pub keys-fine : not fine ≡ false → true ≡ allOf isEntry list
+  keys-fine e = sym (not-false fine e) ∙ k .answer
 
 pub number-at : {f : Tile → ℕ} (l : List ℕ) (i : ℕ) → TileNumbers f l → i < length l → TileNumber f (getD l i 0)
 number-at l i all h = all (getD l i 0) (getD-in l i 0 h)

@@ -1,5 +1,5 @@
 -- The pass in the middle of a list: what stands on the stack, what is still to come, and what one number more does to them.
-use mathlib.Core.Path.{_≡_, refl, sym, ap, _∙_, subst}
+use mathlib.Core.Path.{_≡_, refl, ap, _∙_, subst}
 use mathlib.Core.Logic.{_⊎_, inl, inr, ⊎-elim}
 use mathlib.Core.Bool.{Bool, true}
 use mathlib.Core.List.{List}
@@ -22,7 +22,7 @@ use Rattle.tile_set.specs.Simplified.{listed}
 use Rattle.settle.specs.Lists.{in-at, taken-at, at-taken, taken-rising, by-at}
 use Rattle.settle.specs.Places.{lowOf, startOf, endOf, low-pos, low-below, held-run, place-held, parent-of-map, IsPlace, tile-place}
 use Rattle.settle.specs.Settle.{Settles, tiles, Popped, Family, Joins, stop, join}
-use Rattle.settle.specs.Stack.{Among, Under, Stack, Onto, stack-none, pop-under, pop-top, join-holds, join-under, join-end, join-top, push, push-under}
+use Rattle.settle.specs.Stack.{Among, Under, Stack, Onto, stack-none, rise-apart, pop-under, pop-top, join-holds, join-under, join-end, join-top, push, push-under}
 
 pub joins-less : {m c j n k : ℕ} {l : List ℕ} → Joins m l c j n k → c ≤ n
 joins-less (stop f) = omega arith
@@ -223,18 +223,7 @@ module _ (m : ℕ) (l₀ l : List ℕ) (count end i : ℕ) (M : Mid m l₀ l cou
       (tiles l (u .0), at-named (u .0) (u .1), subst (λ (x : Tile). Holds (tiles l (u .0)) x) (ap placeTile (a .2) ∙ n .2) (u .2))
 
   apart : (a b : Tile) → R a ≡ true → R b ≡ true → Holds a b → a ≡ b
-  apart a b p q g = pick (named-at a p) (named-at b q)
-    where
-      pick : Among (tiles l) count a → Among (tiles l) count b → a ≡ b
-      pick (x, u, d) (y, v, e) = order (decLt x y) (decLt y x)
-        where
-          run : (startOf (tiles l x) ≤ startOf (tiles l y)) × (endOf (tiles l y) ≤ endOf (tiles l x))
-          run = held-run (rw (d, e) g) (M .stack .of-map y v)
-
-          order : Dec (x < y) → Dec (y < x) → a ≡ b
-          order (yes s) k = absurd (omega (arith, M .stack .rise x y s v, run, low-pos (tiles l y)))
-          order (no s) (yes k) = absurd (omega (arith, M .stack .rise y x k u, run, low-pos (tiles l y)))
-          order (no s) (no k) = let z : x ≡ y = omega arith in sym d ∙ (ap (tiles l) z ∙ e)
+  apart a b p q = rise-apart (tiles l) count (M .stack .of-map) (M .stack .rise) (named-at a p) (named-at b q)
 
   pub ended : Settles m l₀ l count
   ended = record {

@@ -149,19 +149,60 @@ module _ (m : ℕ) (S : Tile → Bool) (T : ℕ → Tile) (n : ℕ) (t p : Tile)
       above i h =
           rw (four p (o .zoom) .start, ← f .first) (g .stack .rise i (n - 3) h (omega (arith, f .three)))
 
--- where one tile's run goes on from another's, the two stand next to each other
-next : (T : ℕ → Tile) (n : ℕ) → ((i j : ℕ) → i < j → j < n → endOf (T i) ≤ startOf (T j)) → (i j : ℕ) → i < n → j < n
-    → endOf (T i) ≡ startOf (T j) → j ≡ i + 1
-next T n rise i j h k e = pick (decLt i j) (decLt (i + 1) j)
-  where
-    pick : Dec (i < j) → Dec (i + 1 < j) → j ≡ i + 1
-    pick (no a) b = absurd (other (decLt j i))
-      where
-        other : Dec (j < i) → ⊥
-        other (yes c) = omega (arith, rise j i c h, low-pos (T i), low-pos (T j))
-        other (no c) = let d : i ≡ j = omega arith in omega (arith, low-pos (T i), (rw (← d) at e))
-    pick (yes a) (yes b) = absurd (omega (arith, rise i (i + 1) (omega arith) (omega arith), rise (i + 1) j b k, low-pos (T (i + 1))))
-    pick (yes a) (no b) = omega arith
+-- tiles whose runs rise
+module _ (T : ℕ → Tile) (n : ℕ) (of-map : (i : ℕ) → i < n → OfMap (T i)) (rise : (i j : ℕ) → i < j → j < n → endOf (T i) ≤ startOf (T j)) where
+  -- none of them holds another
+  pub rise-apart : {a b : Tile} → Among T n a → Among T n b → Holds a b → a ≡ b
+  rise-apart {a} {b} (x, u, d) (y, v, e) g = order (decLt x y) (decLt y x)
+    where
+      run : (startOf (T x) ≤ startOf (T y)) × (endOf (T y) ≤ endOf (T x))
+      run = held-run (rw (d, e) g) (of-map y v)
+
+      order : Dec (x < y) → Dec (y < x) → a ≡ b
+      order (yes s) k = absurd (omega (arith, rise x y s v, run, low-pos (T y)))
+      order (no s) (yes k) = absurd (omega (arith, rise y x k u, run, low-pos (T y)))
+      order (no s) (no k) = let z : x ≡ y = omega arith in sym d ∙ (ap T z ∙ e)
+
+  -- where one tile's run goes on from another's, the two stand next to each other
+  next : (i j : ℕ) → i < n → j < n → endOf (T i) ≡ startOf (T j) → j ≡ i + 1
+  next i j h k e = pick (decLt i j) (decLt (i + 1) j)
+    where
+      pick : Dec (i < j) → Dec (i + 1 < j) → j ≡ i + 1
+      pick (no a) b = absurd (other (decLt j i))
+        where
+          other : Dec (j < i) → ⊥
+          other (yes c) = omega (arith, rise j i c h, low-pos (T i), low-pos (T j))
+          other (no c) = let d : i ≡ j = omega arith in omega (arith, low-pos (T i), (rw (← d) at e))
+      pick (yes a) (yes b) = absurd (omega (arith, rise i (i + 1) (omega arith) (omega arith), rise (i + 1) j b k, low-pos (T (i + 1))))
+      pick (yes a) (no b) = omega arith
+
+  -- four siblings among them stand together
+  pub together : (m : ℕ) (p : Tile) → m ≤ p .z → Among T n (child p 0 0) → Among T n (child p 1 0) → Among T n (child p 0 1) → Among T n (child p 1 1)
+      → (l : ℕ) × (l < n) × Family m T l (T l) p
+  together m p d (i, hi, ei) (j, hj, ej) (k, hk, ek) (l, hl, el) = (
+    l,
+    hl,
+    record {
+      deep = d;
+      three = omega (arith, first, second, third);
+      first = ap T (omega (arith, first, second, third)) ∙ ei;
+      second = ap T (omega (arith, second, third)) ∙ ej;
+      third = ap T (omega (arith, third)) ∙ ek;
+      fourth = el;
+    },
+  )
+    where
+      f : Four p
+      f = four p ((rw el at (of-map l hl)) .zoom)
+
+      first : j ≡ i + 1
+      first = next i j hi hj (rw (ei, ej) (f .second))
+
+      second : k ≡ j + 1
+      second = next j k hj hk (rw (ej, ek) (f .third))
+
+      third : l ≡ k + 1
+      third = next k l hk hl (rw (ek, el) (f .fourth))
 
 -- t goes on top: what stands at the first n is as it was, and t is behind it
 module _ (m : ℕ) (S : Tile → Bool) (T : ℕ → Tile) (n : ℕ) (t : Tile) (g : Onto m S T n t) (T' : ℕ → Tile)
@@ -185,46 +226,36 @@ module _ (m : ℕ) (S : Tile → Bool) (T : ℕ → Tile) (n : ℕ) (t : Tile) (
   push-under x (inr k) = (n, omega arith, rw top k)
 
   pub push : ((p : Tile) → Family m T n t p → ⊥) → Stack m S T' (n + 1)
-  push stop = record {
-    of-map = at-each OfMap (g .stack .of-map) (g .of-map);
-    built = at-each (Built m S) (g .stack .built) (g .built);
-    rise = rise;
-    no-four = no-four;
-  }
+  push stop = record { of-map = of-map; built = at-each (Built m S) (g .stack .built) (g .built); rise = rise; no-four = no-four }
     where
+      of-map : (i : ℕ) → i < n + 1 → OfMap (T' i)
+      of-map = at-each OfMap (g .stack .of-map) (g .of-map)
+
       no-four : (p : Tile) → m ≤ p .z → Among T' (n + 1) (child p 0 0) → Among T' (n + 1) (child p 1 0) → Among T' (n + 1) (child p 0 1)
           → Among T' (n + 1) (child p 1 1) → ⊥
-      no-four p d (i, hi, ei) (j, hj, ej) (k, hk, ek) (l, hl, el) = pick (decLt l n)
+      no-four p d a b c e = pick (together T' (n + 1) of-map rise m p d a b c e)
         where
-          f : Four p
-          f = four p ((rw el at (at-each OfMap (g .stack .of-map) (g .of-map) l hl)) .zoom)
+          pick : (l : ℕ) × (l < n + 1) × Family m T' l (T' l) p → ⊥
+          pick (l, h, f) = old (decLt l n)
+            where
+              three : 3 ≤ l
+              three = f .three
 
-          first : j ≡ i + 1
-          first = next T' (n + 1) rise i j hi hj (rw (ei, ej) (f .second))
+              below : (k : ℕ) → 0 < k → k ≤ l → {x : Tile} → T' (l - k) ≡ x → T (l - k) ≡ x
+              below k a b q = sym (same (l - k) (omega arith)) ∙ q
 
-          second : k ≡ j + 1
-          second = next T' (n + 1) rise j k hj hk (rw (ej, ek) (f .third))
-
-          third : l ≡ k + 1
-          third = next T' (n + 1) rise k l hk hl (rw (ek, el) (f .fourth))
-
-          old : (x : Tile) (a : ℕ) → a < n → T' a ≡ x → Among T n x
-          old x a h e = (a, h, sym (same a h) ∙ e)
-
-          below : (x : Tile) (a b : ℕ) → a < n → a ≡ b → T' a ≡ x → T b ≡ x
-          below x a b h u e = sym (ap T u) ∙ (sym (same a h) ∙ e)
-
-          pick : Dec (l < n) → ⊥
-          pick (yes h) =
-              g .stack .no-four p d (old _ i (omega (arith, first, second, third)) ei) (old _ j (omega (arith, second, third)) ej)
-              (old _ k (omega (arith, third)) ek) (old _ l h el)
-          pick (no h) =
-              let e : l ≡ n = omega arith in
-              stop p (record {
-                deep = d;
-                three = omega (arith, first, second, third);
-                first = below _ i (n - 3) (omega (arith, first, second, third)) (omega (arith, first, second, third)) ei;
-                second = below _ j (n - 2) (omega (arith, second, third)) (omega (arith, second, third)) ej;
-                third = below _ k (n - 1) (omega (arith, third)) (omega (arith, third)) ek;
-                fourth = sym top ∙ (sym (ap T' e) ∙ el);
-              })
+              old : Dec (l < n) → ⊥
+              old (yes k) =
+                  g .stack .no-four p d (l - 3, omega arith, below 3 (omega arith) three (f .first)) (l - 2, omega arith, below 2 (omega arith) (omega arith) (f .second))
+                  (l - 1, omega arith, below 1 (omega arith) (omega arith) (f .third)) (l, k, sym (same l k) ∙ f .fourth)
+              old (no k) =
+                  let e : l ≡ n = omega arith in
+                  let q : Family m T l t p = record {
+                    deep = d;
+                    three = three;
+                    first = below 3 (omega arith) three (f .first);
+                    second = below 2 (omega arith) (omega arith) (f .second);
+                    third = below 1 (omega arith) (omega arith) (f .third);
+                    fourth = sym top ∙ (sym (ap T' e) ∙ f .fourth);
+                  } in
+                  stop p (rw e at q)

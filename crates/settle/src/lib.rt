@@ -111,7 +111,7 @@ fn joined(places: &[u64], count: usize, k: u64, m: u8) -> Top
 }
 
 // Whether k and the three places below it are the children of one tile, and deeper than zoom m.
-fn family(places: &[u64], count: usize, k: u64, m: u8) -> bool
+pub fn family(places: &[u64], count: usize, k: u64, m: u8) -> bool
     requires { ⌜ Stand (now places) count k ⌝ }
     ensures { λ r. ⌜ r ≡ true ↔ ((p : Tile) × Family m (tiles (now (places .entry))) count (placeTile k) p) ⌝ }
 {

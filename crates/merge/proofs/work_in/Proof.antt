@@ -4,9 +4,9 @@ use mathlib.Core.List.{List, List·Memᴰ}
 use Prim.Native.Nat.{ℕ}
 use lib.ListN.{length, length-map}
 use lib.Seq.{length-take-le}
-use Rattle.merge.specs.Laws.{keys-refused, keys-fine, keys-left, no-tile, no-room, done}
+use Rattle.merge.specs.Laws.{keys-left, no-tile, no-room, done}
 use Rattle.merge.specs.Merge.{sortedBy}
-use Rattle.quadtree.specs.Lists.{keys-of-tiles}
+use Rattle.quadtree.specs.Lists.{keys-refused, keys-fine, keys-of-tiles}
 use borrow.Author.Needs.{needs}
 use Rattle.merge.proofs.work_in.Statement.{statement}
 use Rattle.merge.proofs.work_in.Tie as tie

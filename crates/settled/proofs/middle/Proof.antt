@@ -1,0 +1,36 @@
+-- `middle` lends places as long as the list, and a scratch.
+use mathlib.Core.Path.{sym}
+use Prim.Native.Nat.{ℕ}
+use native.Mathlib.Omega.{arith}
+use lib.ListN.{length-replicate}
+use Rattle.constants.specs.Limits.{maxEntries}
+use Rattle.settle.specs.Lists.{scratch-part}
+use borrow.Author.Needs.{needs}
+use Rattle.settled.proofs.middle.Statement.{statement}
+use Rattle.settled.proofs.middle.Tie as tie
+
+array-borrow-prefix-places : tie.Need-array-borrow-prefix-places
+array-borrow-prefix-places c = search needs
+
+slice-aggregate-test-in : tie.Need-slice-aggregate-test-in
+slice-aggregate-test-in c = scratch-part 4096 _ (c .before .before .pre)
+
+slice-aggregate-test-in-2 : tie.Need-slice-aggregate-test-in-2
+slice-aggregate-test-in-2 c = sym (length-replicate {A = ℕ} 4096 0)
+
+test-in-requires : tie.Need-test-in-requires
+unfolding maxEntries
+test-in-requires c κs = (omega (arith, c .before .before .before .pre), scratch-part 4096 _ (c .before .before .before .pre))
+
+returns : tie.Need-returns
+returns c = search needs
+
+pub middle-spec : {M : Type 1} → statement M
+middle-spec =
+    tie.close
+    (tie.spec
+    array-borrow-prefix-places
+    slice-aggregate-test-in
+    slice-aggregate-test-in-2
+    test-in-requires
+    returns)

@@ -1,0 +1,165 @@
+-- A list is settled exactly where the places of its tiles, in order, lie apart with no four siblings among them.
+use mathlib.Core.Path.{_≡_, refl, sym, ap, _∙_}
+use mathlib.Core.Bool.{Bool, true, false, not, _&&_, true≢false, false≢true}
+use mathlib.Core.List.{List, map, List·Memᴰ}
+use Prim.Native.Nat.{ℕ, _≤_, _<_}
+use native.Mathlib.Decide.{decLt}
+use native.Mathlib.Omega.{arith}
+use lib.ListN.{length, getD}
+use borrow.Author.Tests.{lt-ltb, le-ltb}
+use Rattle.bits.specs.Tests.{and-parts, not-true, not-false, allOf, all-in, in-all}
+use Rattle.constants.specs.Limits.{maxEntries}
+use Rattle.errors.specs.Cases.{boolCase}
+use Rattle.errors.specs.declared.BoolAnswer.the-variants.{Told, Refused}
+use Rattle.errors.specs.declared.Refusal.the-variants.{TooMany, NoTile}
+use Rattle.ids.specs.Entry.{entryTile, isEntry}
+use Rattle.quadtree.specs.Lists.{entryKey, TileNumbers, keys-of-tiles}
+use Rattle.quadtree.specs.Numbers.{placeOf, placeTile}
+use Rattle.settle.specs.Lists.{rising-at}
+use Rattle.settle.specs.Middle.{place-at}
+use Rattle.settle.specs.Places.{startOf, endOf, low-pos, Lie, holding, held, before, after, lies, IsPlace}
+use Rattle.settle.specs.Settle.{tiles}
+use Rattle.settle.specs.Stack.{rise-apart}
+use Rattle.sort.specs.Sort.{sortN, Rising}
+use Rattle.tile.specs.declared.Tile.{Tile}
+use Rattle.tile_list.specs.Laws.{named-by, names, keys-named, sort-named, sort-numbers}
+use Rattle.tile_list.specs.List.{named, listed, listRefusal}
+use Rattle.tile_set.specs.Holds.{holds-level, ancestor-holds, holder-is-ancestor}
+use Rattle.tile_set.specs.Merged.{Apart, is-false, bool-ext, whole-all, joins-when, joined-when, joined-joins}
+use Rattle.tile_set.specs.Set.{ancestor, child, whole}
+use Rattle.tile_set.specs.Uncovered.{any-below-of, any-below-in}
+use Rattle.settled.specs.Answers.{Lone, Tested, isSettledOf}
+use Rattle.settled.specs.Order.{places-rise}
+use Rattle.settled.specs.Runs.{Runs}
+use Rattle.settled.specs.Settled.{strictlyInOrder, besideAncestor, withSiblings, isSettled}
+use Rattle.settled.specs.Walk.{named-among, at-named}
+
+-- no entry stands beside an ancestor where no listed tile holds another, and none with its siblings where none of them are all there
+module _ (list : List ℕ) where
+  abbrev noneBeside : Bool
+  noneBeside = allOf (λ n. not (besideAncestor list (entryTile n))) list
+
+  abbrev noneWith : Bool
+  noneWith = allOf (λ n. not (withSiblings list (entryTile n))) list
+
+  apart-beside : Apart (listed list) → noneBeside ≡ true
+  apart-beside apart = in-all (λ n. not (besideAncestor list (entryTile n))) list (λ n m. ap not (is-false (besideAncestor list (entryTile n)) (never n m)))
+    where
+      never : (n : ℕ) → List·Memᴰ n list → besideAncestor list (entryTile n) ≡ true → ⊥
+      never n m e =
+          let t = entryTile n in
+          let s = any-below-of (t .z) (λ s. listed list (ancestor t s)) e in
+          let q = apart (ancestor t (s .0)) t (s .2) (names entryTile list n t m refl) (ancestor-holds t (s .0) (omega (arith, s .1))) in
+          omega (arith, ap (λ (u : Tile). u .z) q, s .1)
+
+  beside-apart : noneBeside ≡ true → Apart (listed list)
+  beside-apart e a b p q g = pick (decLt (a .z) (b .z))
+    where
+      beside : a .z < b .z → ⊥
+      beside l =
+          let s = named-by entryTile list b q in
+          let n = not-true (besideAncestor list (entryTile (s .0))) (all-in (λ n. not (besideAncestor list (entryTile n))) list e (s .1)) in
+          let y : besideAncestor list b ≡ true = any-below-in (b .z) (λ s. listed list (ancestor b s)) (a .z) l (sym (ap (listed list) (holder-is-ancestor g)) ∙ p) in
+          true≢false (sym y ∙ (sym (ap (besideAncestor list) (s .2)) ∙ n))
+
+      pick : Dec (a .z < b .z) → a ≡ b
+      pick (yes l) = absurd (beside l)
+      pick (no l) = holds-level g (omega arith)
+
+  four-with : ((p : Tile) → whole (listed list) p ≡ false) → noneWith ≡ true
+  four-with none = in-all (λ n. not (withSiblings list (entryTile n))) list (λ n m. ap not (is-false (withSiblings list (entryTile n)) (λ e.
+      true≢false (sym (joins-when 0 (listed list) (entryTile n) .0 e .1) ∙ none _))))
+
+  with-four : noneWith ≡ true → (p : Tile) → whole (listed list) p ≡ false
+  with-four e p = is-false (whole (listed list) p) never
+    where
+      never : whole (listed list) p ≡ true → ⊥
+      never w =
+          let s = named-by entryTile list (child p 0 0) (whole-all (listed list) p .0 w 0 0 (omega arith) (omega arith)) in
+          let n = not-true (withSiblings list (entryTile (s .0))) (all-in (λ n. not (withSiblings list (entryTile n))) list e (s .1)) in
+          let y = joined-joins 0 (listed list) p 0 0 (omega arith) (omega arith) (joined-when 0 (listed list) p .1 (omega arith, w)) in
+          true≢false (sym y ∙ (sym (ap (withSiblings list) (s .2)) ∙ n))
+
+-- runs that follow each other are those of tiles of which none holds another
+pub runs-apart : {l : List ℕ} → Runs l → Apart (named placeTile l)
+runs-apart {l} r a b p q = rise-apart (tiles l) (length l) (λ i h. r .each i h .of-map) (r .rise) (named-among l a p) (named-among l b q)
+
+apart-runs : (l : List ℕ) → TileNumbers placeOf l → Rising l → Apart (named placeTile l) → Runs l
+apart-runs l numbers up apart = record { each = place-at l numbers; rise = rise }
+  where
+    rise : (i j : ℕ) → i < j → j < length l → endOf (tiles l i) ≤ startOf (tiles l j)
+    rise i j h k = pick (lies (tiles l i) (tiles l j) (a .of-map) (b .of-map))
+      where
+        a : IsPlace (getD l i 0)
+        a = place-at l numbers i (omega arith)
+
+        b : IsPlace (getD l j 0)
+        b = place-at l numbers j k
+
+        less : placeOf (tiles l i) < placeOf (tiles l j)
+        less = rw (a .again, b .again) (rising-at l up i j h k)
+
+        pick : Lie (tiles l i) (tiles l j) → endOf (tiles l i) ≤ startOf (tiles l j)
+        pick (before g) = g
+        pick (after g) = absurd (omega (arith, less, low-pos (tiles l i), low-pos (tiles l j)))
+        pick (holding g) =
+            let e = apart (tiles l i) (tiles l j) (at-named l i (omega arith) refl) (at-named l j k refl) g in
+            absurd (omega (arith, less, ap placeOf e))
+        pick (held g) =
+            let e = apart (tiles l j) (tiles l i) (at-named l j k refl) (at-named l i (omega arith) refl) g in
+            absurd (omega (arith, less, ap placeOf e))
+
+-- what the code's steps tell: b says whether the list is strictly in order, and the places of its tiles are sorted
+pub not-in-order : (list places : List ℕ) (b : Bool) → b ≡ strictlyInOrder list → not b ≡ true → Tested list places false
+unfolding isSettled
+not-in-order list places b e f = let g = sym e ∙ not-true b f in record { answer = rw g; in-order = λ h. absurd (false≢true h); runs = λ h. absurd (false≢true h) }
+
+module _ (list keys places : List ℕ) (e : allOf isEntry list ≡ true) (k : keys ≡ map (entryKey true) list) (s : places ≡ sortN keys) where
+  sorted : places ≡ sortN (map (entryKey true) list)
+  sorted = s ∙ ap sortN k
+
+  pub sorted-places : TileNumbers placeOf places
+  sorted-places = rw sorted (sort-numbers placeOf (map (entryKey true) list) (keys-of-tiles true list e))
+
+  same : named placeTile places ≡ listed list
+  same = ap (named placeTile) sorted ∙ (sort-named placeTile (map (entryKey true) list) ∙ keys-named true list e)
+
+  module _ (b : Bool) (f : b ≡ strictlyInOrder list) (g : not b ≡ false) (r : Bool) (l : Lone places r) where
+    order : strictlyInOrder list ≡ true
+    order = sym f ∙ not-false b g
+
+    forth : r ≡ true → isSettled list ≡ true
+    unfolding isSettled
+    forth h =
+        let p = l .fine h in
+        rw (order, apart-beside list (rw same at (runs-apart (p .0))), four-with list (rw same at (p .1)))
+
+    back : isSettled list ≡ true → r ≡ true
+    unfolding isSettled
+    back h = pick r refl
+      where
+        rest : (noneBeside list && noneWith list) ≡ true
+        rest = and-parts (strictlyInOrder list) _ h .1
+
+        runs : Runs places
+        runs = apart-runs places sorted-places (rw sorted (places-rise list e order)) (rw same (beside-apart list (and-parts (noneBeside list) (noneWith list) rest .0)))
+
+        pick : (c : Bool) → r ≡ c → r ≡ true
+        pick true q = q
+        pick false q = absurd (l .off q runs (rw same (with-four list (and-parts (noneBeside list) (noneWith list) rest .1))))
+
+    pub tested : Tested list places r
+    tested = record { answer = bool-ext r (isSettled list) forth back; in-order = λ h. sorted; runs = λ h. l .fine h .0 }
+
+-- what the call answers: its refusals, in the order of the tests, and the value
+pub too-many : (list : List ℕ) → maxEntries < length list → boolCase (Refused TooMany) ≡ isSettledOf list
+unfolding listRefusal
+too-many list h = rw (lt-ltb _ _ h)
+
+pub no-tile : (list : List ℕ) → length list ≤ maxEntries → false ≡ allOf isEntry list → boolCase (Refused NoTile) ≡ isSettledOf list
+unfolding listRefusal
+no-tile list h e = rw (le-ltb _ _ h, ← e)
+
+pub told : (list : List ℕ) (r : Bool) → length list ≤ maxEntries → true ≡ allOf isEntry list → r ≡ isSettled list → boolCase (Told r) ≡ isSettledOf list
+unfolding listRefusal
+told list r h e f = rw (le-ltb _ _ h, ← e, f)

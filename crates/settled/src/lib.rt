@@ -1,0 +1,159 @@
+// Whether a list is settled, by the places of its tiles along the quadtree.
+use constants::MAX_ENTRIES;
+use errors::BoolAnswer;
+use errors::Refusal;
+use tile::Tile;
+use tile::TileAnswer;
+ghost use mathlib.Core.Path.{_≡_};
+ghost use mathlib.Core.Bool.{true};
+ghost use mathlib.Core.List.{map};
+ghost use Prim.Native.Nat.{_≤_};
+ghost use lib.ListN.{length};
+ghost use Rattle.bits.specs.Tests.{allOf};
+ghost use Rattle.constants.specs.Limits.{maxEntries};
+ghost use Rattle.errors.specs.Cases.{boolCase};
+ghost use Rattle.ids.specs.Entry.{isEntry};
+ghost use Rattle.quadtree.specs.Lists.{entryKey, TileNumbers};
+ghost use Rattle.quadtree.specs.Numbers.{OfMap, placeOf, rankOf};
+ghost use Rattle.settled.specs.Answers.{Lone, Tested, isSettledOf};
+ghost use Rattle.settled.specs.Settled.{strictlyInOrder};
+
+// Rises with the zoom, then the column, then the row.
+fn rank(t: Tile) -> u64
+    requires { ⌜ OfMap t ⌝ }
+    ensures { λ r. ⌜ r ≡ rankOf t ⌝ }
+{
+    let side = bits::wide_pow2(t.z);
+    (side + (t.x as u64)) * side + (t.y as u64)
+}
+
+// Whether the entries stand strictly in the order of tiles.
+pub fn strictly_in_order(list: &[u64]) -> bool
+    requires { ⌜ allOf isEntry (now list) ≡ true ⌝ }
+    ensures { λ r. ⌜ r ≡ strictlyInOrder (now (list .entry)) ⌝ }
+{
+    let mut last = 0;
+    let mut i = 0;
+    while i < list.len() {
+        match ids::entry_tile(list[i]) {
+            TileAnswer::Found(t) => {
+                let r = rank(t);
+                if r <= last {
+                    return false;
+                }
+                last = r;
+            }
+            TileAnswer::Refused(_) => {
+                return false;
+            }
+        }
+        i += 1;
+    }
+    true
+}
+
+// Whether the tiles of places lie apart, one behind the other, with no four siblings among them.
+pub fn apart(places: &[u64]) -> bool
+    requires { ⌜ TileNumbers placeOf (now places) ⌝ }
+    ensures { λ r. ⌜ Lone (now (places .entry)) r ⌝ }
+{
+    let mut end = 0;
+    let mut i = 0;
+    while i < places.len() {
+        let k = places[i];
+        let low = settle::low_bit(k);
+        if k - low < end {
+            return false;
+        }
+        if settle::family(places, i, k, 0) {
+            return false;
+        }
+        end = k + low;
+        i += 1;
+    }
+    true
+}
+
+// Puts the places of a list's tiles in order, by way of scratch of any length, and says whether the list is settled.
+pub fn settled(list: &[u64], places: &mut [u64], scratch: &mut [u64]) -> bool
+    requires { ⌜ (allOf isEntry (now list) ≡ true) × (now places ≡ map (entryKey true) (now list)) ⌝ }
+    ensures { λ r. ⌜ Tested (now (list .entry)) (now (places .exit)) r ⌝ }
+{
+    if !strictly_in_order(list) {
+        return false;
+    }
+    exchange::sort(places, scratch);
+    apart(places)
+}
+
+// Whether a list is settled: strictly in order, no tile beside its own ancestor, no four siblings together.
+pub fn is_settled(list: &[u64]) -> BoolAnswer
+    ensures { λ r. ⌜ boolCase r ≡ isSettledOf (now (list .entry)) ⌝ }
+{
+    run(list, 2)
+}
+
+// The memory for the places, and to sort them, is of the call's own and has to be cleared, so it is not much longer than the list: one size for
+// short lists, and `longer` ones. Each stands in a function of its own. The compiler joins such a function to its caller, but not to a
+// caller that calls itself: so a short list does not pay for the stack of a long one.
+fn run(list: &[u64], longer: u8) -> BoolAnswer
+    ensures { λ r. ⌜ boolCase r ≡ isSettledOf (now (list .entry)) ⌝ }
+{
+    let n = list.len();
+    if longer == 2 {
+        if n > 64 {
+            return run(list, 1);
+        }
+        return short(list);
+    }
+    if longer == 1 {
+        if n > 4096 {
+            return run(list, 0);
+        }
+        return middle(list);
+    }
+    if n > MAX_ENTRIES {
+        return BoolAnswer::Refused(Refusal::TooMany);
+    }
+    long(list)
+}
+
+fn short(list: &[u64]) -> BoolAnswer
+    requires { ⌜ length (now list) ≤ 64 ⌝ }
+    ensures { λ r. ⌜ boolCase r ≡ isSettledOf (now (list .entry)) ⌝ }
+{
+    let n = list.len();
+    let mut places = [0u64; 64];
+    let mut scratch = [0u64; 64];
+    test_in(list, &mut places[..n], &mut scratch)
+}
+
+fn middle(list: &[u64]) -> BoolAnswer
+    requires { ⌜ length (now list) ≤ 4096 ⌝ }
+    ensures { λ r. ⌜ boolCase r ≡ isSettledOf (now (list .entry)) ⌝ }
+{
+    let n = list.len();
+    let mut places = [0u64; 4096];
+    let mut scratch = [0u64; 4096];
+    test_in(list, &mut places[..n], &mut scratch)
+}
+
+fn long(list: &[u64]) -> BoolAnswer
+    requires { ⌜ length (now list) ≤ maxEntries ⌝ }
+    ensures { λ r. ⌜ boolCase r ≡ isSettledOf (now (list .entry)) ⌝ }
+{
+    let n = list.len();
+    let mut places = [0u64; MAX_ENTRIES];
+    let mut scratch = [0u64; MAX_ENTRIES];
+    test_in(list, &mut places[..n], &mut scratch)
+}
+
+fn test_in(list: &[u64], places: &mut [u64], scratch: &mut [u64]) -> BoolAnswer
+    requires { ⌜ (length (now list) ≤ maxEntries) × (length (now list) ≡ length (now places)) ⌝ }
+    ensures { λ r. ⌜ boolCase r ≡ isSettledOf (now (list .entry)) ⌝ }
+{
+    if !quadtree::keys(list, places, true) {
+        return BoolAnswer::Refused(Refusal::NoTile);
+    }
+    BoolAnswer::Told(settled(list, places, scratch))
+}
