@@ -1,4 +1,5 @@
 // Whether a call answered what the list says: the refusal's number, 0 for none, then the values, which are zeros where it is refused.
+use errors::BoolAnswer;
 use errors::Count;
 use errors::Refusal;
 use errors::U32Answer;
@@ -41,6 +42,13 @@ pub fn refused(why: Refusal, values: usize, want: &[u64]) -> bool {
 // The answer of a call that says yes or no, and is never refused.
 pub fn same_bool(answer: bool, want: &[u64]) -> bool {
     accepted(&[answer as u64], want)
+}
+
+pub fn same_told(answer: BoolAnswer, want: &[u64]) -> bool {
+    match answer {
+        BoolAnswer::Told(told) => same_bool(told, want),
+        BoolAnswer::Refused(why) => refused(why, 1, want),
+    }
 }
 
 pub fn same_tile(answer: TileAnswer, want: &[u64]) -> bool {

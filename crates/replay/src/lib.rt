@@ -1,8 +1,9 @@
-// What the replay programs share. Each reads a list of calls, with what the Rust answered, from standard input, and makes the
-// same calls of a proved crate: a line whose answer differs is printed.
+// What the replay programs share. Each reads a list of calls with their answers from standard input, and makes the same calls of a
+// proved crate: a line whose answer differs is printed.
 pub mod answers;
 pub mod args;
 pub mod calls;
 pub mod lines;
+pub mod lists;
 pub mod parse;
 pub mod parts;

@@ -1,11 +1,11 @@
 // Replays the calls of `merge`: prints each line whose answer, or the memory that it left, is not the Rust's.
-use errors::Count;
 use merge::MergeAnswer;
 use replay::answers;
 use replay::answers::BLANK;
 use replay::args;
 use replay::args::OptionArg;
 use replay::calls;
+use replay::lists;
 use replay::parts;
 use tile::OptionU8;
 
@@ -59,11 +59,11 @@ fn of_tiles(name: &[u8], tiles: &[u64], m: OptionU8, out: &mut [u64], want: &[u6
     }
     if check::same(name, b"simplify") {
         let answer = merge::simplify(tiles, m, out);
-        return same_count(answer, n, out, want);
+        return lists::same_list(answer, n, out, want);
     }
     if check::same(name, b"simplify_v1") {
         let answer = merge::simplify_v1(tiles, m, out);
-        return same_count(answer, n, out, want);
+        return lists::same_list(answer, n, out, want);
     }
     false
 }
@@ -74,45 +74,9 @@ fn same_merged(answer: MergeAnswer, n: usize, out: &[u64], want: &[u64]) -> bool
         MergeAnswer::Found(merged) => {
             let count = merged.count;
             let front = [merged.changed as u64, count as u64];
-            accepted(&front, count, want) && holds(out, parts::numbers(want, 3, count), n)
+            lists::accepted(&front, count, want)
+                && lists::holds(out, parts::numbers(want, 3, count), n)
         }
-        MergeAnswer::Refused(why) => answers::refused(why, 2, want) && holds(out, &[], 0),
+        MergeAnswer::Refused(why) => answers::refused(why, 2, want) && lists::holds(out, &[], 0),
     }
-}
-
-fn same_count(answer: Count, n: usize, out: &[u64], want: &[u64]) -> bool {
-    match answer {
-        Count::Counted(count) => {
-            accepted(&[count as u64], count, want) && holds(out, parts::numbers(want, 2, count), n)
-        }
-        Count::Refused(why) => answers::refused(why, 1, want) && holds(out, &[], 0),
-    }
-}
-
-// Whether the list says that the call is accepted, with these values, and so many entries behind them.
-fn accepted(values: &[u64], entries: usize, want: &[u64]) -> bool {
-    if want.len() < entries {
-        return false;
-    }
-    let front = want.len() - entries;
-    answers::accepted(values, parts::numbers(want, 0, front))
-}
-
-// Whether the memory holds these entries, then 0 up to n places, and is blank behind them.
-fn holds(out: &[u64], entries: &[u64], n: usize) -> bool {
-    let mut i = 0;
-    while i < out.len() {
-        if out[i] != held_at(entries, n, i) {
-            return false;
-        }
-        i += 1;
-    }
-    true
-}
-
-fn held_at(entries: &[u64], n: usize, i: usize) -> u64 {
-    if i < entries.len() {
-        return entries[i];
-    }
-    if i < n { 0 } else { BLANK as u64 }
 }

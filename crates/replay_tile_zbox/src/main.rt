@@ -10,7 +10,6 @@ use replay::args::U32Arg;
 use replay::calls;
 use replay::parts;
 use tile::Tile;
-use tile_zbox::BoolAnswer;
 use tile_zbox::BoxAnswer;
 use tile_zbox::ExtentAnswer;
 use tile_zbox::NextAnswer;
@@ -181,10 +180,7 @@ fn contains_tile(b: TileZBox, given: &[u64], want: &[u64]) -> bool {
     let TileArg::Given(t) = args::tile_at(given, 5) else {
         return false;
     };
-    match b.contains_tile(t.x, t.y, t.z) {
-        BoolAnswer::Told(answer) => answers::same_bool(answer, want),
-        BoolAnswer::Refused(why) => answers::refused(why, 1, want),
-    }
+    answers::same_told(b.contains_tile(t.x, t.y, t.z), want)
 }
 
 fn same_box(answer: BoxAnswer, want: &[u64]) -> bool {

@@ -1,6 +1,7 @@
 //! Writes one list of calls and answers for each module of the port into the folder that is named.
 mod bbox;
 mod beyond;
+mod builds;
 mod fns;
 mod merge;
 mod paper;
@@ -15,7 +16,7 @@ mod zoom;
 
 use record::List;
 
-const LISTS: [(&str, fn(&mut List)); 9] = [
+const LISTS: [(&str, fn(&mut List)); 10] = [
     ("sibling_relationship", sibling_relationship::write),
     ("tile", tile::write),
     ("quadkey", quadkey::write),
@@ -25,6 +26,7 @@ const LISTS: [(&str, fn(&mut List)); 9] = [
     ("zoom", zoom::write),
     ("bbox", bbox::write),
     ("merge", merge::write),
+    ("builds", builds::write),
 ];
 
 fn main() {

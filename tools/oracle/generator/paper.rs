@@ -117,20 +117,34 @@ pub fn zboxes(areas: &[Zbox]) -> u64 {
     lowest(&[lowest(&each), if areas.len() > MOST_BOXES { 6 } else { 0 }])
 }
 
+pub fn ids(numbers: &[u64]) -> u64 {
+    if numbers.iter().any(|&n| id(n) != 0) { 7 } else { 0 }
+}
+
 /// What `merge` and both settlings ask: no number that is no tile's, and a place for each entry as sent.
 pub fn tile_list(numbers: &[u64], places: usize) -> u64 {
-    if numbers.iter().any(|&n| id(n) != 0) {
-        7
-    } else if places < numbers.len() {
-        12
-    } else {
-        0
-    }
+    lowest(&[ids(numbers), if places < numbers.len() { 12 } else { 0 }])
+}
+
+/// The z, x and y of a tile's number, so that tiles are in order as these are.
+pub fn place(number: u64) -> (u64, u64, u64) {
+    let (z, place) = (number % 32, number / 32);
+    (z, place % (2 << z), place / (2 << z))
+}
+
+/// Strictly in order, no tile beside its own ancestor, no four siblings together.
+pub fn settled(numbers: &[u64]) -> bool {
+    let tiles: Vec<(u64, u64, u64)> = numbers.iter().map(|&n| place(n)).collect();
+    let above = |(z, x, y): (u64, u64, u64), up: u64| (z - up, x >> up, y >> up);
+    let has_ancestor = |t: (u64, u64, u64)| (1..=t.0).any(|up| tiles.contains(&above(t, up)));
+    let siblings =
+        |t: (u64, u64, u64)| tiles.iter().filter(|&&s| s.0 > 0 && t.0 > 0 && above(s, 1) == above(t, 1)).count();
+    tiles.windows(2).all(|pair| pair[0] < pair[1]) && tiles.iter().all(|&t| !has_ancestor(t) && siblings(t) < 4)
 }
 
 /// What `from_tiles` asks: no number that is no tile's, not empty, one zoom.
 pub fn box_list(numbers: &[u64]) -> u64 {
-    if numbers.iter().any(|&n| id(n) != 0) {
+    if ids(numbers) != 0 {
         7
     } else if numbers.is_empty() {
         8

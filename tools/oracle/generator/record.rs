@@ -63,6 +63,18 @@ impl List {
         self.counts.entry(name.to_string()).or_default()[2] += 1;
     }
 
+    /// A line that a build starts with.
+    pub fn begin(&mut self, name: &str) {
+        self.ruled += &format!("{name} =\n");
+        self.counts.entry(name.to_string()).or_default()[1] += 1;
+    }
+
+    /// A call of a build, which stands behind the calls before it, whether it is refused or not, and as often as it is made.
+    pub fn play(&mut self, name: &str, args: &[u64], refusal: u64, values: &[u64]) {
+        self.ruled += &line(&format!("{name}{}", spaced(args)), refusal, values);
+        self.counts.entry(name.to_string()).or_default()[if refusal == 0 { 1 } else { 2 }] += 1;
+    }
+
     // The call's text, unless the list has the call.
     fn first(&mut self, name: &str, args: &[u64]) -> Option<String> {
         let call = format!("{name}{}", spaced(args));

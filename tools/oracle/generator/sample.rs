@@ -34,6 +34,11 @@ impl Random {
         (self.coordinate(z), self.coordinate(z), z)
     }
 
+    /// A coordinate `down` zooms below another, inside it.
+    pub fn within(&mut self, coordinate: u32, down: u8) -> u32 {
+        (coordinate << down) + self.coordinate(down)
+    }
+
     pub fn pick<T: Copy>(&mut self, from: &[T]) -> T {
         from[self.below(from.len() as u64) as usize]
     }

@@ -1,9 +1,9 @@
--- `replay_merge::holds` is safe and ends: a walk over the memory.
+-- `replay::lists::holds` is safe and ends: a walk over the memory.
 use Prim.Native.Nat.{_-_}
 use lib.ListN.{length}
 use borrow.Author.Needs.{needs}
-use Rattle.replay_merge.proofs.holds.Statement.{statement}
-use Rattle.replay_merge.proofs.holds.Tie as tie
+use Rattle.replay.proofs.lists.holds.Statement.{statement}
+use Rattle.replay.proofs.lists.holds.Tie as tie
 
 abbrev Inv-loop : tie.InvT-loop
 Inv-loop out entries n i₀ i = Unit

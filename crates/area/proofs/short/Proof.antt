@@ -1,0 +1,37 @@
+-- `short` lends a scratch for both lists, and one to sort with.
+use native.Mathlib.Omega.{arith}
+use Rattle.area.specs.Tests.{lent-enough}
+use Rattle.constants.specs.Limits.{maxEntries}
+use borrow.Author.Needs.{needs}
+use Rattle.area.proofs.short.Statement.{statement}
+use Rattle.area.proofs.short.Tie as tie
+use Rattle.area.proofs.short.Reads as reads
+use Rattle.area.proofs.short.Lts as lts
+use Rattle.area.proofs.work_in.Reads as work-in-reads
+
+slice-aggregate-work-in : tie.Need-slice-aggregate-work-in
+slice-aggregate-work-in c = search needs
+
+slice-aggregate-work-in-2 : tie.Need-slice-aggregate-work-in-2
+slice-aggregate-work-in-2 c = search needs
+
+work-in-requires : tie.Need-work-in-requires
+unfolding maxEntries
+work-in-requires c κs =
+    let s = c .before .before .before .before .before .before in lent-enough 64 128 (s .args .a .now) (s .args .b .now) (s .pre .0) (s .pre .1) (omega arith) (omega arith)
+
+same-length : tie.Need-same-length
+same-length c = search needs
+
+returns : tie.Need-returns
+returns c = search needs
+
+pub short-spec : {M : Type 1} → statement M
+short-spec =
+    tie.close
+    (tie.spec
+    slice-aggregate-work-in
+    slice-aggregate-work-in-2
+    work-in-requires
+    same-length
+    returns)

@@ -1,0 +1,236 @@
+-- From the sets that the code makes to the settled lists that are promised, and the ends of a call.
+use mathlib.Core.Path.{_≡_, refl, sym, ap, ap₂, _∙_, subst}
+use mathlib.Core.Bool.{Bool, true, false, not, _&&_, _||_}
+use mathlib.Core.List.{List, _++_, map, append-nil}
+use Prim.Native.Nat.{ℕ, _+_, _-_, _≤_, _<_}
+use native.Mathlib.Omega.{arith}
+use borrow.Author.Tests.{lt-ltb, le-ltb}
+use lib.ListN.{length, take, drop, length-append, length-map}
+use lib.Seq.{sets, take-at, take-all, drop-at, length-take-le}
+use Rattle.area.specs.Area.{groundOf, pairRefusal, pairPlacesRefusal, differenceEntries, differenceOf}
+use Rattle.area.specs.Grounds.{listed-covers, largest-entries, simplified-entries}
+use Rattle.area.specs.Left.{difference-covers, difference-tops}
+use Rattle.area.specs.Pairs.{union-covers, common-covers, common-tops}
+use Rattle.area.specs.Settled.{settled-tops}
+use Rattle.area.specs.Work.{workOf, joinOf, joinEntries, placesOf, pairTests, Ready, Parted, Remains, joinSet, leftSet}
+use Rattle.area.specs.declared.Work.{Work}
+use Rattle.area.specs.declared.Work.the-variants.{Common}
+use Rattle.bits.specs.Tests.{and-parts, allOf, any-append}
+use Rattle.common.specs.Common.{shared}
+use Rattle.common.specs.Common as common
+use Rattle.constants.specs.Limits.{maxZoom}
+use Rattle.difference.specs.Left.{without}
+use Rattle.difference.specs.Order.{without-runs}
+use Rattle.difference.specs.Walk.{sets-full}
+use Rattle.errors.specs.Answer.{Lent, written, _when_, _else_}
+use Rattle.errors.specs.Cases.{left}
+use Rattle.errors.specs.Memory.{written-short, written-done}
+use Rattle.errors.specs.declared.Check.the-variants as check
+use Rattle.errors.specs.declared.Count.the-variants as count
+use Rattle.errors.specs.declared.Refusal.the-variants.{Memory}
+use Rattle.ground.specs.Largest.{Full, Cover}
+use Rattle.ids.specs.Entry.{isEntry}
+use Rattle.quadtree.specs.Lists.{entryKey, TileNumbers}
+use Rattle.quadtree.specs.Numbers.{placeOf, placeTile}
+use Rattle.settle.specs.Settle.{tiles, Settles}
+use Rattle.settle.specs.Simplify.{settled-listed}
+use Rattle.settled.specs.Settled.{isSettled}
+use Rattle.sort.specs.Laws.{sort-length}
+use Rattle.sort.specs.Sort.{sortN}
+use Rattle.tile.specs.declared.Tile.{Tile}
+use Rattle.tile_list.specs.Finish.{Listed, listed-filled}
+use Rattle.tile_list.specs.Laws.{keys-named, sort-named}
+use Rattle.tile_list.specs.List.{same, named, listed, entriesInOrder, filled}
+use Rattle.tile_set.specs.Set.{parentTile, simplified}
+use Rattle.area.specs.Tests.{pair-few}
+use Rattle.area.specs.Runs.{runs-numbers, parted-numbers, runs-count}
+
+-- what passes the tests
+tests-passed : (e s : Bool) → 7 when not e else 11 when not s ≡ 0 → (e ≡ true) × (s ≡ true)
+tests-passed true true h = (refl, refl)
+tests-passed true false h = absurd (omega arith)
+tests-passed false s h = absurd (omega arith)
+
+named-append : (tile : ℕ → Tile) (a b : List ℕ) (t : Tile) → named tile (a ++ b) t ≡ named tile a t || named tile b t
+unfolding named
+named-append tile a b t = any-append (λ n. same (tile n) t) a b
+
+-- two lists that have passed the tests
+module _ (a b : List ℕ) (passed : pairTests a b ≡ 0) where
+  both : (allOf isEntry a && allOf isEntry b ≡ true) × (isSettled a && isSettled b ≡ true)
+  both = tests-passed (allOf isEntry a && allOf isEntry b) (isSettled a && isSettled b) passed
+
+  entries-a : allOf isEntry a ≡ true
+  entries-a = and-parts (allOf isEntry a) (allOf isEntry b) (both .0) .0
+
+  entries-b : allOf isEntry b ≡ true
+  entries-b = and-parts (allOf isEntry a) (allOf isEntry b) (both .0) .1
+
+  settled-a : isSettled a ≡ true
+  settled-a = and-parts (isSettled a) (isSettled b) (both .1) .0
+
+  settled-b : isSettled b ≡ true
+  settled-b = and-parts (isSettled a) (isSettled b) (both .1) .1
+
+  -- the places name the tiles that the list names
+  places-named : (list : List ℕ) → allOf isEntry list ≡ true → named placeTile (placesOf list) ≡ listed list
+  places-named list e = sort-named placeTile (map (entryKey true) list) ∙ keys-named true list e
+
+  places-cover : (list : List ℕ) → allOf isEntry list ≡ true → Cover maxZoom (groundOf list) (λ t. named placeTile (placesOf list) t ≡ true)
+  places-cover list e = rw (places-named list e) (listed-covers list e)
+
+  places-tops : (list : List ℕ) → allOf isEntry list ≡ true → isSettled list ≡ true
+      → (t : Tile) → named placeTile (placesOf list) t ≡ true → 0 < t .z → Full maxZoom (groundOf list) (parentTile t) → ⊥
+  places-tops list e s = rw (places-named list e) (settled-tops list s e)
+
+  -- the sets that the code makes are the settled lists that are promised
+  pub join-entries : (all : Bool) → entriesInOrder (joinSet all a b) ≡ joinEntries all a b
+  join-entries true =
+      simplified-entries (λ X Y. groundOf a X Y || groundOf b X Y) (named placeTile (placesOf a ++ placesOf b))
+      (subst (λ (S : Tile → Bool). Cover maxZoom (λ X Y. groundOf a X Y || groundOf b X Y) (λ t. S t ≡ true)) (λ i t. sym (named-append placeTile (placesOf a) (placesOf b) t) i)
+      (union-covers (named placeTile (placesOf a)) (named placeTile (placesOf b)) (places-cover a entries-a) (places-cover b entries-b)))
+  join-entries false =
+      largest-entries (λ X Y. groundOf a X Y && groundOf b X Y) (shared (named placeTile (placesOf a)) (named placeTile (placesOf b)))
+      (common-covers (named placeTile (placesOf a)) (named placeTile (placesOf b)) (places-cover a entries-a) (places-cover b entries-b))
+      (common-tops (named placeTile (placesOf a)) (named placeTile (placesOf b)) (places-cover a entries-a) (places-cover b entries-b)
+      (places-tops a entries-a settled-a) (places-tops b entries-b settled-b))
+
+  pub left-entries : entriesInOrder (leftSet a b) ≡ differenceEntries a b
+  left-entries =
+      largest-entries (λ X Y. groundOf a X Y && not (groundOf b X Y)) (leftSet a b)
+      (difference-covers (placesOf a) (placesOf b) (groundOf a) (groundOf b) (places-cover a entries-a) (places-cover b entries-b))
+      (difference-tops (placesOf a) (placesOf b) (groundOf a) (groundOf b) (places-cover a entries-a) (places-cover b entries-b) (places-tops a entries-a settled-a))
+
+-- the places of both lists as two settled sets
+module _ (a b keys : List ℕ) (r : Ready a b keys) where
+  places-length : (list : List ℕ) → length (placesOf list) ≡ length list
+  places-length list = sort-length (map (entryKey true) list) ∙ length-map list (entryKey true)
+
+  abbrev pub front : List ℕ
+  front = take (length a + length b) keys
+
+  pub front-first : take (length a) front ≡ placesOf a
+  front-first = ap (take (length a)) (r .in-runs .places) ∙ take-at (placesOf a) (placesOf b) (length a) (places-length a)
+
+  pub front-second : drop (length a) front ≡ placesOf b
+  front-second = ap (drop (length a)) (r .in-runs .places) ∙ drop-at (placesOf a) (placesOf b) (length a) (places-length a)
+
+  pub front-length : length front ≡ length a + length b
+  front-length = length-take-le (length a + length b) keys (r .long)
+
+  pub front-parted : Parted front (length a)
+  front-parted = record {
+    within = omega (arith, front-length);
+    first = rw front-first (r .in-runs .first);
+    second = rw front-second (r .in-runs .second);
+  }
+
+-- the sets of the code's last step, from those of the steps before
+module _ (a b keys : List ℕ) (r : Ready a b keys) where
+  abbrev ahead : List ℕ
+  ahead = front a b keys r
+
+  pub united-listed : {after memory : List ℕ} {n count : ℕ} → Settles 0 (sortN ahead) after n → Listed (named placeTile (take n after)) memory count
+      → Listed (joinSet true a b) memory count
+  united-listed {after} {memory} {n} {count} s l =
+      subst (λ (k : List ℕ). Listed (simplified maxZoom 0 (named placeTile k)) memory count) (r .in-runs .places)
+      (settled-listed 0 ahead after memory n count (parted-numbers ahead (length a) (front-parted a b keys r)) s l)
+
+  pub shared-listed : {after memory : List ℕ} {n count : ℕ} → common.Common (take (length a) ahead) (drop (length a) ahead) after n
+      → Listed (named placeTile (take n after)) memory count → Listed (joinSet false a b) memory count
+  shared-listed {after} {memory} {n} {count} c l =
+      subst (λ (S : Tile → Bool). Listed S memory count) (λ i t. (c .tiles t ∙ ap₂ (λ (p q : List ℕ). shared (named placeTile p) (named placeTile q) t)
+      (front-first a b keys r) (front-second a b keys r)) i) l
+
+  module _ (before after : List ℕ) (n : ℕ) (m : Remains (take (length a) ahead) (drop (length a) ahead) before after n)
+      (e : length before ≡ length (without (placesOf a) (placesOf b))) where
+    abbrev tiles-left : List Tile
+    tiles-left = without (placesOf a) (placesOf b)
+
+    its : without (take (length a) ahead) (drop (length a) ahead) ≡ tiles-left
+    its = ap₂ without (front-first a b keys r) (front-second a b keys r)
+
+    pub left-all : (take n after ≡ map placeOf tiles-left) × (n ≤ length after)
+    left-all =
+        let w : after ≡ map placeOf tiles-left = m .written ∙ (ap (λ (l : List Tile). sets before 0 (map placeOf l)) its ∙ sets-full before (map placeOf tiles-left) (length-map tiles-left placeOf ∙ sym e)) in
+        let c : n ≡ length after = m .count ∙ (ap length its ∙ sym (ap length w ∙ length-map tiles-left placeOf)) in
+        (take-all n after (omega arith) ∙ w, omega arith)
+
+    pub left-numbers : TileNumbers placeOf (take n after)
+    left-numbers = rw (left-all .0) (runs-numbers (map placeOf tiles-left) (without-runs (placesOf a) (placesOf b) (r .in-runs .first)))
+
+    pub left-listed : {memory : List ℕ} {count : ℕ} → Listed (named placeTile (take n after)) memory count → Listed (leftSet a b) memory count
+    left-listed {memory} {count} = subst (λ (l : List ℕ). Listed (named placeTile l) memory count) (left-all .0)
+
+-- the ends of a call on lists that have passed the tests
+module _ (a b keys memory : List ℕ) (r : Ready a b keys) where
+  accepted : pairRefusal a b ≡ 0
+  accepted = pair-few a b (r .first-few) (r .second-few) ∙ r .passed
+
+  pub join-short : (all : Bool) → length memory < length a + length b → left (count.Refused Memory) memory ≡ joinOf all a b memory
+  unfolding pairPlacesRefusal
+  join-short true h = rw (accepted, lt-ltb _ _ h)
+  join-short false h = rw (accepted, lt-ltb _ _ h)
+
+  pub join-done : (all : Bool) (after : List ℕ) (n : ℕ) → length a + length b ≤ length memory → length after ≡ length a + length b
+      → Listed (joinSet all a b) after n → left (count.Counted n) (after ++ drop (length a + length b) memory) ≡ joinOf all a b memory
+  unfolding pairPlacesRefusal
+  join-done all after n h e l = pick all items value
+    where
+      items : after ++ drop (length a + length b) memory ≡ filled (length (a ++ b)) (joinEntries all a b) memory
+      items =
+          listed-filled (length a + length b) memory l e
+          ∙ (ap (λ (k : List ℕ). filled (length a + length b) k memory) (join-entries a b (r .passed) all)
+          ∙ ap (λ (k : ℕ). filled k (joinEntries all a b) memory) (sym (length-append a b)))
+
+      value : n ≡ length (joinEntries all a b)
+      value = l .counted ∙ ap length (join-entries a b (r .passed) all)
+
+      pick : (all : Bool) → after ++ drop (length a + length b) memory ≡ filled (length (a ++ b)) (joinEntries all a b) memory
+          → n ≡ length (joinEntries all a b) → left (count.Counted n) (after ++ drop (length a + length b) memory) ≡ joinOf all a b memory
+      pick true i v = rw (accepted, le-ltb _ _ h, i, v)
+      pick false i v = rw (accepted, le-ltb _ _ h, i, v)
+
+  abbrev remains : List Tile
+  remains = without (placesOf a) (placesOf b)
+
+  pub left-count : length (differenceEntries a b) ≡ length remains
+  left-count =
+      sym (ap length (left-entries a b (r .passed)))
+      ∙ (runs-count (map placeOf remains) (without-runs (placesOf a) (placesOf b) (r .in-runs .first)) ∙ length-map remains placeOf)
+
+  pub difference-short : length memory < length remains → left (count.Refused Memory) memory ≡ differenceOf a b memory
+  difference-short h = written-short (differenceEntries a b) memory accepted (omega (arith, left-count))
+
+  pub difference-done : (after : List ℕ) (n : ℕ) → length remains ≤ length memory → length after ≡ length remains
+      → Listed (leftSet a b) after n → left (count.Counted n) (after ++ drop (length remains) memory) ≡ differenceOf a b memory
+  difference-done after n h e l =
+      written-done (differenceEntries a b) memory (after ++ drop (length remains) memory) accepted (omega (arith, left-count)) value
+      (rw (left-count) (ap (λ (k : List ℕ). k ++ drop (length remains) memory) whole))
+    where
+      value : n ≡ length (differenceEntries a b)
+      value = l .counted ∙ ap length (left-entries a b (r .passed))
+
+      whole : after ≡ differenceEntries a b
+      whole =
+          let z : length after - n ≡ 0 = omega (arith, left-count, value) in
+          l .left ∙ (rw (z, append-nil (entriesInOrder (leftSet a b))) (left-entries a b (r .passed)))
+
+  -- what the code counted
+  pub counted-left : {n : ℕ} → n ≡ length (without (take (length a) (front a b keys r)) (drop (length a) (front a b keys r))) → n ≡ length remains
+  counted-left e = e ∙ ap length (ap₂ without (front-first a b keys r) (front-second a b keys r))
+
+  pub remaining-done : (n : ℕ) → n ≡ length (without (take (length a) (front a b keys r)) (drop (length a) (front a b keys r))) → (after : List ℕ) (m : ℕ)
+      → n ≤ length memory → length after ≡ length (take n memory) → Listed (leftSet a b) after m
+      → left (count.Counted m) (after ++ drop n memory) ≡ differenceOf a b memory
+  remaining-done n e after m h k l =
+      let f : n ≡ length remains = counted-left e in
+      ap (λ (i : ℕ). left (count.Counted m) (after ++ drop i memory)) f
+      ∙ difference-done after m (omega (arith, h)) (k ∙ (length-take-le n memory h ∙ f)) l
+
+-- each work's own promise is what is asked of it
+pub by-work : {work : Work} {answer : Lent ℕ} (a b memory : List ℕ) (w : Work) → work ≡ w → answer ≡ workOf w a b memory → answer ≡ workOf work a b memory
+by-work a b memory w e f = rw e f
+
+pub by-all : {all : Bool} {memory : List ℕ} {n : ℕ} (a b : List ℕ) (v : Bool) → all ≡ v → Listed (joinSet v a b) memory n → Listed (joinSet all a b) memory n
+by-all a b v e l = rw e l

@@ -1,0 +1,9 @@
+pub mod Area
+pub mod Grounds
+pub mod Settled
+pub mod Pairs
+pub mod Left
+pub mod Work
+pub mod Tests
+pub mod Runs
+pub mod Ends

@@ -1,0 +1,95 @@
+-- What the steps of the code ask and leave: the places of both lists, the tests of the two, and the sets that are made of them.
+use mathlib.Core.Path.{_≡_}
+use mathlib.Core.Bool.{Bool, true, false, not, _&&_}
+use mathlib.Core.List.{List, _++_, map}
+use Prim.Native.Nat.{ℕ, _+_, _≤_}
+use lib.ListN.{length, take, drop}
+use lib.Seq.{sets}
+use Rattle.area.specs.Area.{unionEntries, commonEntries, unionOf, commonOf, differenceOf}
+use Rattle.area.specs.declared.Work.{Work}
+use Rattle.area.specs.declared.Work.the-variants.{Union, Common, Difference}
+use Rattle.bits.specs.Tests.{allOf}
+use Rattle.common.specs.Common.{shared}
+use Rattle.constants.specs.Limits.{maxZoom, maxEntries}
+use Rattle.difference.specs.Left.{without}
+use Rattle.errors.specs.Answer.{Lent, _when_, _else_}
+use Rattle.errors.specs.Cases.{checkNumber}
+use Rattle.errors.specs.declared.Check.{Check}
+use Rattle.errors.specs.declared.Check.the-variants.{Fine}
+use Rattle.ids.specs.Entry.{isEntry}
+use Rattle.quadtree.specs.Lists.{entryKey}
+use Rattle.quadtree.specs.Numbers.{placeOf, placeTile}
+use Rattle.settled.specs.Runs.{Runs}
+use Rattle.settled.specs.Settled.{isSettled}
+use Rattle.sort.specs.Sort.{sortN}
+use Rattle.tile.specs.declared.Tile.{Tile}
+use Rattle.tile_list.specs.List.{named}
+use Rattle.tile_set.specs.Set.{simplified}
+
+-- the promises, by the code's own name of what is to be done
+abbrev pub workOf : Work → List ℕ → List ℕ → List ℕ → Lent ℕ
+workOf Union a b memory = unionOf a b memory
+workOf Common a b memory = commonOf a b memory
+workOf Difference a b memory = differenceOf a b memory
+
+abbrev pub joinOf : Bool → List ℕ → List ℕ → List ℕ → Lent ℕ
+joinOf true a b memory = unionOf a b memory
+joinOf false a b memory = commonOf a b memory
+
+abbrev pub joinEntries : Bool → List ℕ → List ℕ → List ℕ
+joinEntries true a b = unionEntries a b
+joinEntries false a b = commonEntries a b
+
+-- the places of a list's tiles, in order
+abbrev pub placesOf : List ℕ → List ℕ
+placesOf list = sortN (map (entryKey true) list)
+
+-- whether both are lists of entries, and then the places of their tiles, one list behind the other
+pub record KeyedBoth (a b keys : List ℕ) (r : Bool) : Type 0 where
+  pub answer : r ≡ allOf isEntry a && allOf isEntry b
+  pub both : r ≡ true → keys ≡ map (entryKey true) a ++ map (entryKey true) b
+
+-- the places of two lists that are settled, each list's in order
+pub record InRuns (a b keys : List ℕ) : Type 0 where
+  pub places : keys ≡ placesOf a ++ placesOf b
+  pub first : Runs (placesOf a)
+  pub second : Runs (placesOf b)
+
+pub record SettledBoth (a b keys : List ℕ) (r : Bool) : Type 0 where
+  pub answer : r ≡ isSettled a && isSettled b
+  pub in-runs : r ≡ true → InRuns a b keys
+
+-- refusals 7 and 11 of the two
+abbrev pub pairTests : List ℕ → List ℕ → ℕ
+pairTests a b = 7 when not (allOf isEntry a && allOf isEntry b) else 11 when not (isSettled a && isSettled b)
+
+pub record Placed (a b keys : List ℕ) (r : Check) : Type 0 where
+  pub refusal : checkNumber r ≡ pairTests a b
+  pub in-runs : r ≡ Fine → InRuns a b keys
+
+-- both lists have passed the tests, and their places stand at the front of `keys`
+pub record Ready (a b keys : List ℕ) : Type 0 where
+  pub first-few : length a ≤ maxEntries
+  pub second-few : length b ≤ maxEntries
+  pub passed : pairTests a b ≡ 0
+  pub long : length a + length b ≤ length keys
+  pub in-runs : InRuns a b (take (length a + length b) keys)
+
+-- the places of two settled sets, the first n of them the first one's
+pub record Parted (places : List ℕ) (n : ℕ) : Type 0 where
+  pub within : n ≤ length places
+  pub first : Runs (take n places)
+  pub second : Runs (drop n places)
+
+-- how many tiles are left, and their places as far as there is room
+pub record Remains (kept gone before after : List ℕ) (r : ℕ) : Type 0 where
+  pub count : r ≡ length (without kept gone)
+  pub written : after ≡ sets before 0 (map placeOf (without kept gone))
+
+-- the tiles that are made of both lists
+abbrev pub joinSet : Bool → List ℕ → List ℕ → Tile → Bool
+joinSet true a b = simplified maxZoom 0 (named placeTile (placesOf a ++ placesOf b))
+joinSet false a b = shared (named placeTile (placesOf a)) (named placeTile (placesOf b))
+
+abbrev pub leftSet : List ℕ → List ℕ → Tile → Bool
+leftSet a b = named placeTile (map placeOf (without (placesOf a) (placesOf b)))

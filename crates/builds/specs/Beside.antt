@@ -1,0 +1,134 @@
+-- What comes back of a build beside what the account keeps: call by call the same refusal, and the answer is the settled list of the set.
+use mathlib.Core.Path.{_≡_, refl, sym, ap, ap₂, _∙_}
+use mathlib.Core.Bool.{Bool, not, _&&_, _||_}
+use mathlib.Core.List.{List, [], _∷_, _++_, map}
+use Prim.Native.Nat.{ℕ, zero, suc, _+_, _-_, _<_}
+use native.Mathlib.Omega.{arith}
+use lib.ListN.{length, drop, getD, replicate, length-append}
+use lib.Seq.{take-at}
+use Rattle.area.specs.Area.{groundOf, settledEntries, pairPlacesRefusal, unionEntries, commonEntries, differenceEntries}
+use Rattle.area.specs.Grounds.{settled-ground, settled-none, simplify-entries, settled-same}
+use Rattle.builds.specs.Account.{told, Kept, setAt, setFor, entriesFor, setOf, refusalOf, keep, account}
+use Rattle.builds.specs.Build.{Operand, own, earlier, Operation, settling, union, commonPart, difference, Build, answerOf, answerAt, handedIn, performed, run}
+use Rattle.constants.specs.Limits.{maxZoom}
+use Rattle.errors.specs.Answer.{Lent, lent, _else_}
+use Rattle.ground.specs.Ground.{Same}
+use Rattle.tile_list.specs.Laws.{accepted-entries}
+use Rattle.tile_list.specs.List.{listed, entriesInOrder, placesRefusal, listAnswer}
+use Rattle.tile_set.specs.Set.{simplified}
+
+-- what came back of a call, and what is kept of it
+pub record Agree (r : Lent ℕ) (k : Kept) : Type 0 where
+  pub refusal : r .number ≡ k .refusal
+  pub answer : answerOf r ≡ settledEntries (k .set)
+  pub count : r .value ≡ length (answerOf r)
+
+abbrev pub Beside : List (Lent ℕ) → List Kept → Type 0
+Beside [] [] = Unit {0}
+Beside [] (k ∷ ks) = ⊥
+Beside (r ∷ rs) [] = ⊥
+Beside (r ∷ rs) (k ∷ ks) = Agree r k × Beside rs ks
+
+beside-more : (rs : List (Lent ℕ)) (ks : List Kept) {r : Lent ℕ} {k : Kept} → Beside rs ks → Agree r k → Beside (rs ++ (r ∷ [])) (ks ++ (k ∷ []))
+beside-more [] [] b a = (a, tt)
+beside-more [] (k ∷ ks) b a = absurd b
+beside-more (r ∷ rs) [] b a = absurd b
+beside-more (r ∷ rs) (k ∷ ks) b a = (b .0, beside-more rs ks (b .1) a)
+
+answer-at : (rs : List (Lent ℕ)) (ks : List Kept) → Beside rs ks → (i : ℕ) → answerAt rs i ≡ settledEntries (setAt ks i)
+unfolding answerAt setAt
+answer-at [] [] b i = sym settled-none
+answer-at [] (k ∷ ks) b i = absurd b
+answer-at (r ∷ rs) [] b i = absurd b
+answer-at (r ∷ rs) (k ∷ ks) b zero = b .0 .answer
+answer-at (r ∷ rs) (k ∷ ks) b (suc i) = answer-at rs ks (b .1) i
+
+-- the lists that go in are those that the account asks of, and stand for its sets
+module _ (rs : List (Lent ℕ)) (ks : List Kept) (b : Beside rs ks) where
+  same-entries : (a : Operand) → handedIn rs a ≡ entriesFor ks a
+  same-entries (own list) = refl
+  same-entries (earlier i) = answer-at rs ks b i
+
+  same-set : (a : Operand) → Same maxZoom (groundOf (entriesFor ks a)) (setFor ks a)
+  same-set (own list) X Y p q = refl
+  same-set (earlier i) X Y p q = settled-ground (setAt ks i) X Y p q
+
+-- an answer in lent memory, accepted and refused, beside what is kept
+agree-listed : (n : ℕ) (list items memory : List ℕ) (G : ℕ → ℕ → Bool) → (n ≡ 0 → items ≡ settledEntries G)
+    → Agree (listAnswer n 0 (length items) list items memory) (keep n G)
+agree-listed zero list items memory G e =
+    let t = take-at items (replicate (length list - length items) 0 ++ drop (length list) memory) (length items) refl in
+    record { refusal = refl; answer = t ∙ e refl; count = ap length (sym t) }
+agree-listed (suc n) list items memory G e = record { refusal = refl; answer = sym settled-none; count = refl }
+
+agree-lent : (n : ℕ) (items memory : List ℕ) (G : ℕ → ℕ → Bool) → items ≡ settledEntries G → Agree (lent n items memory) (keep n G)
+agree-lent zero items memory G e =
+    let t = take-at items (drop (length items) memory) (length items) refl in
+    record { refusal = refl; answer = t ∙ e; count = ap length (sym t) }
+agree-lent (suc n) items memory G e = record { refusal = refl; answer = sym settled-none; count = refl }
+
+else-zero : (n m : ℕ) → n else m ≡ 0 → n ≡ 0
+else-zero zero m e = refl
+else-zero (suc n) m e = absurd (omega arith)
+
+-- one call more
+module _ (rs : List (Lent ℕ)) (ks : List Kept) (b : Beside rs ks) where
+  abbrev set : Operand → ℕ → ℕ → Bool
+  set a = setFor ks a
+
+  abbrev list : Operand → List ℕ
+  list a = entriesFor ks a
+
+  agree : (asked : Operation) (memory : List ℕ)
+      → Agree (performed rs asked memory) (keep (refusalOf ks (record { asked = asked; places = length memory })) (setOf ks asked))
+  unfolding placesRefusal pairPlacesRefusal
+  agree (settling a) memory =
+      rw (same-entries rs ks b a)
+      (agree-listed (refusalOf ks (record { asked = settling a; places = length memory })) (list a)
+      (entriesInOrder (simplified maxZoom 0 (listed (list a)))) memory (set a)
+      (λ e. simplify-entries (list a) (accepted-entries (list a) (else-zero _ _ e)) ∙ settled-same (groundOf (list a)) (set a) (same-set rs ks b a)))
+  agree (union p q) memory =
+      rw (same-entries rs ks b p, same-entries rs ks b q)
+      (agree-listed (refusalOf ks (record { asked = union p q; places = length memory })) (list p ++ list q) (unionEntries (list p) (list q)) memory
+      (setOf ks (union p q))
+      (λ e. settled-same (λ X Y. groundOf (list p) X Y || groundOf (list q) X Y) (setOf ks (union p q))
+      (λ X Y i j. ap₂ _||_ (same-set rs ks b p X Y i j) (same-set rs ks b q X Y i j))))
+  agree (commonPart p q) memory =
+      rw (same-entries rs ks b p, same-entries rs ks b q)
+      (agree-listed (refusalOf ks (record { asked = commonPart p q; places = length memory })) (list p ++ list q) (commonEntries (list p) (list q)) memory
+      (setOf ks (commonPart p q))
+      (λ e. settled-same (λ X Y. groundOf (list p) X Y && groundOf (list q) X Y) (setOf ks (commonPart p q))
+      (λ X Y i j. ap₂ _&&_ (same-set rs ks b p X Y i j) (same-set rs ks b q X Y i j))))
+  agree (difference p q) memory =
+      rw (same-entries rs ks b p, same-entries rs ks b q, left)
+      (agree-lent (refusalOf ks (record { asked = difference p q; places = length memory })) (settledEntries (setOf ks (difference p q))) memory
+      (setOf ks (difference p q)) refl)
+    where
+      left : differenceEntries (list p) (list q) ≡ settledEntries (setOf ks (difference p q))
+      left =
+          settled-same (λ X Y. groundOf (list p) X Y && not (groundOf (list q) X Y)) (setOf ks (difference p q))
+          (λ X Y i j. ap₂ (λ (u v : Bool). u && not v) (same-set rs ks b p X Y i j) (same-set rs ks b q X Y i j))
+
+-- the whole build
+pub beside : (rs : List (Lent ℕ)) (ks : List Kept) → Beside rs ks → (build : Build) → Beside (run rs build) (account ks (map told build))
+unfolding run account
+beside rs ks b [] = b
+beside rs ks b (c ∷ build) =
+    beside (rs ++ (performed rs (c .asked) (c .memory) ∷ [])) (ks ++ (keep (refusalOf ks (told c)) (setOf ks (c .asked)) ∷ []))
+    (beside-more rs ks b (agree rs ks b (c .asked) (c .memory))) build
+
+-- as many came back as calls were made
+pub run-length : (rs : List (Lent ℕ)) (build : Build) → length (run rs build) ≡ length rs + length build
+unfolding run
+run-length rs [] = omega arith
+run-length rs (c ∷ build) =
+    let e = run-length (rs ++ (performed rs (c .asked) (c .memory) ∷ [])) build in
+    e ∙ rw (length-append rs (performed rs (c .asked) (c .memory) ∷ [])) (omega arith)
+
+-- of each call
+pub agree-at : (rs : List (Lent ℕ)) (ks : List Kept) → Beside rs ks → (i : ℕ) → i < length rs → (r : Lent ℕ) (k : Kept) → Agree (getD rs i r) (getD ks i k)
+agree-at [] [] b i h r k = absurd (omega arith)
+agree-at [] (q ∷ ks) b i h r k = absurd b
+agree-at (p ∷ rs) [] b i h r k = absurd b
+agree-at (p ∷ rs) (q ∷ ks) b zero h r k = b .0
+agree-at (p ∷ rs) (q ∷ ks) b (suc i) h r k = agree-at rs ks (b .1) i (omega arith) r k

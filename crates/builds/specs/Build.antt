@@ -1,0 +1,54 @@
+-- Document 01's build: a list of calls of `simplify` at m = 0, union, common part and difference, each fed lists of the caller's own or answers given
+-- earlier in the build; and what comes back of them, by the definitions that the four functions promise.
+use mathlib.Core.List.{List, [], _∷_, _++_}
+use Prim.Native.Nat.{ℕ, zero, suc}
+use lib.ListN.{take}
+use Rattle.area.specs.Area.{unionOf, commonOf, differenceOf}
+use Rattle.errors.specs.Answer.{Lent}
+use Rattle.merge.specs.Merge.{simplifyOf}
+
+-- a list handed in: the caller's own, or the answer of an earlier call, by that call's number in the build from 0 on
+pub data Operand : Type 0 where
+  own : List ℕ → Operand
+  earlier : ℕ → Operand
+
+pub data Operation : Type 0 where
+  settling : Operand → Operation
+  union : Operand → Operand → Operation
+  commonPart : Operand → Operand → Operation
+  difference : Operand → Operand → Operation
+
+-- what is asked, and the memory that is lent for it as it stands before the call: of any length, however filled
+pub record Call : Type 0 where
+  pub asked : Operation
+  pub memory : List ℕ
+
+abbrev pub Build : Type 0
+Build = List Call
+
+-- "the answer is the first places of the lent memory, as many as the count returned, as the call left them"
+abbrev pub answerOf : Lent ℕ → List ℕ
+answerOf r = take (r .value) (r .memory)
+
+-- The answer of call i. "A refused call gives no answer": its count is 0. An operand that names a refused call, or none that was made, is no build;
+-- here it is read as the empty list, so that nothing has to be assumed.
+unfoldable pub answerAt : List (Lent ℕ) → ℕ → List ℕ
+answerAt [] i = []
+answerAt (r ∷ rs) zero = answerOf r
+answerAt (r ∷ rs) (suc i) = answerAt rs i
+
+-- the entries of a list handed in, after the calls that came back so far
+abbrev pub handedIn : List (Lent ℕ) → Operand → List ℕ
+handedIn back (own list) = list
+handedIn back (earlier i) = answerAt back i
+
+abbrev pub performed : List (Lent ℕ) → Operation → List ℕ → Lent ℕ
+performed back (settling a) memory = simplifyOf (handedIn back a) 0 memory
+performed back (union a b) memory = unionOf (handedIn back a) (handedIn back b) memory
+performed back (commonPart a b) memory = commonOf (handedIn back a) (handedIn back b) memory
+performed back (difference a b) memory = differenceOf (handedIn back a) (handedIn back b) memory
+
+-- what has come back after the calls of a build, one after the other
+unfoldable pub run : List (Lent ℕ) → Build → List (Lent ℕ)
+run back [] = back
+run back (c ∷ build) = run (back ++ (performed back (c .asked) (c .memory) ∷ [])) build

@@ -1,0 +1,4 @@
+pub mod Build
+pub mod Account
+pub mod Beside
+pub mod Demand3
