@@ -12,12 +12,10 @@ use Rattle.area.specs.Grounds.{listed-covers, largest-entries, simplifie
 use Rattle.area.specs.Left.{difference-covers, difference-tops}
 use Rattle.area.specs.Pairs.{union-covers, common-covers, common-tops}
 use Rattle.area.specs.Settled.{settled-tops}
-use Rattle.area.specs.Work.{workOf, joinOf, joinEntries, placesOf, pairTests, Ready, Parted, Remains, joinSet, leftSet}
+use Rattle.area.specs.Work.{workOf, joinOf, joinEntries, placesOf, pairTests, Ready, Parted, Remains, Made, madeSet, leftSet}
 use Rattle.area.specs.declared.Work.{Work}
-use Rattle.area.specs.declared.Work.the-variants.{Common}
 use Rattle.bits.specs.Tests.{and-parts, allOf, any-append}
 use Rattle.common.specs.Common.{shared}
-use Rattle.common.specs.Common as common
 use Rattle.constants.specs.Limits.{maxZoom}
 use Rattle.difference.specs.Left.{without}
 use Rattle.difference.specs.Order.{without-runs}
@@ -32,18 +30,16 @@ use Rattle.ground.specs.Largest.{Full, Cover}
 use Rattle.ids.specs.Entry.{isEntry}
 use Rattle.quadtree.specs.Lists.{entryKey, TileNumbers}
 use Rattle.quadtree.specs.Numbers.{placeOf, placeTile}
-use Rattle.settle.specs.Settle.{tiles, Settles}
-use Rattle.settle.specs.Simplify.{settled-listed}
+use Rattle.settle.specs.Settle.{tiles}
 use Rattle.settled.specs.Settled.{isSettled}
 use Rattle.sort.specs.Laws.{sort-length}
-use Rattle.sort.specs.Sort.{sortN}
 use Rattle.tile.specs.declared.Tile.{Tile}
 use Rattle.tile_list.specs.Finish.{Listed, listed-filled}
 use Rattle.tile_list.specs.Laws.{keys-named, sort-named}
 use Rattle.tile_list.specs.List.{same, named, listed, entriesInOrder, filled}
-use Rattle.tile_set.specs.Set.{parentTile, simplified}
+use Rattle.tile_set.specs.Set.{parentTile}
 use Rattle.area.specs.Tests.{pair-few}
-use Rattle.area.specs.Runs.{runs-numbers, parted-numbers, runs-count}
+use Rattle.area.specs.Runs.{runs-numbers, runs-count}
 
 -- what passes the tests
 tests-passed : (e s : Bool) → 7 when not e else 11 when not s ≡ 0 → (e ≡ true) × (s ≡ true)
@@ -84,7 +80,7 @@ module _ (a b : List ℕ) (passed : pairTests a b ≡ 0) where
   places-tops list e s = rw (places-named list e) (settled-tops list s e)
 
   -- the sets that the code makes are the settled lists that are promised
-  pub join-entries : (all : Bool) → entriesInOrder (joinSet all a b) ≡ joinEntries all a b
+  pub join-entries : (all : Bool) → entriesInOrder (madeSet all (placesOf a) (placesOf b)) ≡ joinEntries all a b
   join-entries true =
       simplified-entries (λ X Y. groundOf a X Y || groundOf b X Y) (named placeTile (placesOf a ++ placesOf b))
       (subst (λ (S : Tile → Bool). Cover maxZoom (λ X Y. groundOf a X Y || groundOf b X Y) (λ t. S t ≡ true)) (λ i t. sym (named-append placeTile (placesOf a) (placesOf b) t) i)
@@ -130,17 +126,10 @@ module _ (a b keys : List ℕ) (r : Ready a b keys) where
   abbrev ahead : List ℕ
   ahead = front a b keys r
 
-  pub united-listed : {after memory : List ℕ} {n count : ℕ} → Settles 0 (sortN ahead) after n → Listed (named placeTile (take n after)) memory count
-      → Listed (joinSet true a b) memory count
-  united-listed {after} {memory} {n} {count} s l =
-      subst (λ (k : List ℕ). Listed (simplified maxZoom 0 (named placeTile k)) memory count) (r .in-runs .places)
-      (settled-listed 0 ahead after memory n count (parted-numbers ahead (length a) (front-parted a b keys r)) s l)
-
-  pub shared-listed : {after memory : List ℕ} {n count : ℕ} → common.Common (take (length a) ahead) (drop (length a) ahead) after n
-      → Listed (named placeTile (take n after)) memory count → Listed (joinSet false a b) memory count
-  shared-listed {after} {memory} {n} {count} c l =
-      subst (λ (S : Tile → Bool). Listed S memory count) (λ i t. (c .tiles t ∙ ap₂ (λ (p q : List ℕ). shared (named placeTile p) (named placeTile q) t)
-      (front-first a b keys r) (front-second a b keys r)) i) l
+  pub made-listed : {all : Bool} {after memory : List ℕ} {n count : ℕ} → Made all (take (length a) ahead) (drop (length a) ahead) after n
+      → Listed (named placeTile (take n after)) memory count → Listed (madeSet all (placesOf a) (placesOf b)) memory count
+  made-listed {all} {after} {memory} {n} {count} m =
+      subst (λ (S : Tile → Bool). Listed S memory count) (m .tiles ∙ ap₂ (madeSet all) (front-first a b keys r) (front-second a b keys r))
 
   module _ (before after : List ℕ) (n : ℕ) (m : Remains (take (length a) ahead) (drop (length a) ahead) before after n)
       (e : length before ≡ length (without (placesOf a) (placesOf b))) where
@@ -173,7 +162,7 @@ module _ (a b keys memory : List ℕ) (r : Ready a b keys) where
   join-short false h = rw (accepted, lt-ltb _ _ h)
 
   pub join-done : (all : Bool) (after : List ℕ) (n : ℕ) → length a + length b ≤ length memory → length after ≡ length a + length b
-      → Listed (joinSet all a b) after n → left (count.Counted n) (after ++ drop (length a + length b) memory) ≡ joinOf all a b memory
+      → Listed (madeSet all (placesOf a) (placesOf b)) after n → left (count.Counted n) (after ++ drop (length a + length b) memory) ≡ joinOf all a b memory
   unfolding pairPlacesRefusal
   join-done all after n h e l = pick all items value
     where
@@ -231,6 +220,3 @@ module _ (a b keys memory : List ℕ) (r : Ready a b keys) where
 -- each work's own promise is what is asked of it
 pub by-work : {work : Work} {answer : Lent ℕ} (a b memory : List ℕ) (w : Work) → work ≡ w → answer ≡ workOf w a b memory → answer ≡ workOf work a b memory
 by-work a b memory w e f = rw e f
-
-pub by-all : {all : Bool} {memory : List ℕ} {n : ℕ} (a b : List ℕ) (v : Bool) → all ≡ v → Listed (joinSet v a b) memory n → Listed (joinSet all a b) memory n
-by-all a b v e l = rw e l

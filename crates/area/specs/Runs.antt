@@ -8,10 +8,13 @@ use Prim.Native.Nat.{ℕ, _+_, _-_, _≤_, _<_}
 use native.Mathlib.Omega.{arith}
 use lib.ListN.{length, take, drop, getD, length-map, length-drop, take-append-drop}
 use lib.Seq.{sets, take-all, length-take-le}
-use Rattle.area.specs.Work.{Parted, Remains}
-use Rattle.area.specs.declared.Work.the-variants.{Common}
+use Rattle.area.specs.Work.{Parted, Made, Remains}
 use Rattle.bits.specs.Tests.{into-map}
-use Rattle.common.specs.Common as common
+use Rattle.common.specs.Common.{shared, Common}
+use Rattle.constants.specs.Limits.{maxZoom}
+use Rattle.settle.specs.Simplify.{settled-set}
+use Rattle.tile_set.specs.Set.{simplified}
+use mathlib.Core.Bool.{true, false}
 use Rattle.difference.specs.Left.{without}
 use Rattle.errors.specs.Answer.{written}
 use Rattle.errors.specs.declared.Check.the-variants as check
@@ -81,13 +84,23 @@ module _ (places : List ℕ) (n : ℕ) where
         → TileNumbers placeOf merged × By (λ n. n) merged
     merged-ready e = rw (merged-sorted e) (sort-numbers placeOf places parted-numbers, sorted-by places)
 
-    pub merged-settles : {merged after : List ℕ} {r : ℕ} → merged ≡ sortN (take n places ++ take (length places - n) (drop n places))
-        → Settles 0 merged after r → Settles 0 (sortN places) after r
-    merged-settles {merged} {after} {r} e s = subst (λ (l : List ℕ). Settles 0 l after r) (merged-sorted e) s
+    pub merged-made : {merged after : List ℕ} {r : ℕ} → merged ≡ sortN (take n places ++ take (length places - n) (drop n places))
+        → Settles 0 merged after r → Made true (take n places) (drop n places) after r
+    merged-made {merged} {after} {r} e s = record {
+      within = s .within;
+      numbers = s .places;
+      tiles =
+          settled-set 0 places after r parted-numbers (subst (λ (l : List ℕ). Settles 0 l after r) (merged-sorted e) s)
+          ∙ ap (λ (l : List ℕ). simplified maxZoom 0 (named placeTile l)) (sym (take-append-drop n places));
+    }
 
-  pub tail-common : {after : List ℕ} {r : ℕ} → common.Common (take n places) (take (length places - n) (drop n places)) after r
-      → common.Common (take n places) (drop n places) after r
-  tail-common {after} {r} = subst (λ (l : List ℕ). common.Common (take n places) l after r) tail-part
+  pub common-made : {after : List ℕ} {r : ℕ} → Common (take n places) (take (length places - n) (drop n places)) after r
+      → Made false (take n places) (drop n places) after r
+  common-made c = record {
+    within = c .within;
+    numbers = c .places;
+    tiles = λ i t. (c .tiles t ∙ ap (λ (l : List ℕ). shared (named placeTile (take n places)) (named placeTile l) t) tail-part) i;
+  }
 
   pub tail-left : {before after : List ℕ} {r : ℕ} → r ≡ length (without (take n places) (take (length places - n) (drop n places)))
       → after ≡ sets before 0 (map placeOf (without (take n places) (take (length places - n) (drop n places))))

@@ -15,7 +15,6 @@ use Rattle.area.specs.Work.{workOf, KeyedBoth, InRuns, SettledBoth, pair
 use Rattle.area.specs.declared.Work.{Work}
 use Rattle.area.specs.declared.Work.the-variants.{Union, Common, Difference}
 use Rattle.bits.specs.Tests.{and-parts, not-true, not-false, allOf}
-use Rattle.common.specs.Common as common
 use Rattle.constants.specs.Limits.{maxEntries}
 use Rattle.errors.specs.Answer.{numberOf, _when_}
 use Rattle.errors.specs.Cases.{checkNumber, left}

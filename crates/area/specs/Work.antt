@@ -17,7 +17,7 @@ use Rattle.errors.specs.Cases.{checkNumber}
 use Rattle.errors.specs.declared.Check.{Check}
 use Rattle.errors.specs.declared.Check.the-variants.{Fine}
 use Rattle.ids.specs.Entry.{isEntry}
-use Rattle.quadtree.specs.Lists.{entryKey}
+use Rattle.quadtree.specs.Lists.{entryKey, TileNumbers}
 use Rattle.quadtree.specs.Numbers.{placeOf, placeTile}
 use Rattle.settled.specs.Runs.{Runs}
 use Rattle.settled.specs.Settled.{isSettled}
@@ -81,15 +81,22 @@ pub record Parted (places : List ℕ) (n : ℕ) : Type 0 where
   pub first : Runs (take n places)
   pub second : Runs (drop n places)
 
+-- the tiles that are made of both sets, by their places: united or shared
+abbrev pub madeSet : Bool → List ℕ → List ℕ → Tile → Bool
+madeSet true a b = simplified maxZoom 0 (named placeTile (a ++ b))
+madeSet false a b = shared (named placeTile a) (named placeTile b)
+
+-- the first r numbers of `after` are the places of those tiles
+pub record Made (all : Bool) (a b after : List ℕ) (r : ℕ) : Type 0 where
+  pub within : r ≤ length after
+  pub numbers : TileNumbers placeOf (take r after)
+  pub tiles : named placeTile (take r after) ≡ madeSet all a b
+
 -- how many tiles are left, and their places as far as there is room
 pub record Remains (kept gone before after : List ℕ) (r : ℕ) : Type 0 where
   pub count : r ≡ length (without kept gone)
   pub written : after ≡ sets before 0 (map placeOf (without kept gone))
 
--- the tiles that are made of both lists
-abbrev pub joinSet : Bool → List ℕ → List ℕ → Tile → Bool
-joinSet true a b = simplified maxZoom 0 (named placeTile (placesOf a ++ placesOf b))
-joinSet false a b = shared (named placeTile (placesOf a)) (named placeTile (placesOf b))
-
+-- the tiles that are left of the first list
 abbrev pub leftSet : List ℕ → List ℕ → Tile → Bool
 leftSet a b = named placeTile (map placeOf (without (placesOf a) (placesOf b)))

@@ -4,18 +4,15 @@ use errors::Check;
 use errors::Count;
 use errors::Refusal;
 ghost use mathlib.Core.Path.{_≡_};
-ghost use mathlib.Core.Bool.{true, false};
+ghost use mathlib.Core.Bool.{true};
 ghost use mathlib.Core.Logic.{_⊎_};
 ghost use Prim.Native.Nat.{_+_, _≤_};
 ghost use lib.ListN.{length, take, drop};
 ghost use Rattle.area.specs.Area.{unionOf, commonOf, differenceOf};
-ghost use Rattle.area.specs.Work.{workOf, joinOf, placesOf, KeyedBoth, SettledBoth, Placed, Ready, Parted, Remains, joinSet, leftSet};
-ghost use Rattle.common.specs.Common.{Common};
+ghost use Rattle.area.specs.Work.{workOf, joinOf, placesOf, KeyedBoth, SettledBoth, Placed, Ready, Parted, Made, Remains, madeSet, leftSet};
 ghost use Rattle.constants.specs.Limits.{maxEntries};
 ghost use Rattle.difference.specs.Left.{without};
 ghost use Rattle.errors.specs.Cases.{left};
-ghost use Rattle.settle.specs.Settle.{Settles};
-ghost use Rattle.sort.specs.Sort.{sortN};
 ghost use Rattle.tile_list.specs.Finish.{Listed};
 
 // The ground of either list.
@@ -181,47 +178,30 @@ fn joined(a: &[u64], b: &[u64], all: bool, keys: &mut [u64], out: &mut [u64]) ->
 
 fn join(a: &[u64], b: &[u64], all: bool, keys: &mut [u64], out: &mut [u64]) -> usize
     requires { ⌜ Ready (now a) (now b) (now keys) × (length (now a) + length (now b) ≡ length (now out)) ⌝ }
-    ensures { λ r. ⌜ Listed (joinSet all (now (a .entry)) (now (b .entry))) (now (out .exit)) r ⌝ }
+    ensures { λ r. ⌜ Listed (madeSet all (placesOf (now (a .entry))) (placesOf (now (b .entry)))) (now (out .exit)) r ⌝ }
+{
+    let n = a.len();
+    let both = n + b.len();
+    let count = made(&keys[..both], n, all, out);
+    tile_list::finish(out, count, keys, true)
+}
+
+fn made(places: &[u64], n: usize, all: bool, out: &mut [u64]) -> usize
+    requires { ⌜ Parted (now places) n × (length (now places) ≡ length (now out)) ⌝ }
+    ensures { λ r. ⌜ Made all (take n (now (places .entry))) (drop n (now (places .entry))) (now (out .exit)) r ⌝ }
 {
     if all {
-        return unite(a, b, keys, out);
+        return united(places, n, out);
     }
-    share(a, b, keys, out)
-}
-
-fn unite(a: &[u64], b: &[u64], keys: &mut [u64], out: &mut [u64]) -> usize
-    requires { ⌜ Ready (now a) (now b) (now keys) × (length (now a) + length (now b) ≡ length (now out)) ⌝ }
-    ensures { λ r. ⌜ Listed (joinSet true (now (a .entry)) (now (b .entry))) (now (out .exit)) r ⌝ }
-{
-    let n = a.len();
-    let both = n + b.len();
-    let count = united(&keys[..both], n, out);
-    tile_list::finish(out, count, keys, true)
-}
-
-fn share(a: &[u64], b: &[u64], keys: &mut [u64], out: &mut [u64]) -> usize
-    requires { ⌜ Ready (now a) (now b) (now keys) × (length (now a) + length (now b) ≡ length (now out)) ⌝ }
-    ensures { λ r. ⌜ Listed (joinSet false (now (a .entry)) (now (b .entry))) (now (out .exit)) r ⌝ }
-{
-    let n = a.len();
-    let both = n + b.len();
-    let count = shared(&keys[..both], n, out);
-    tile_list::finish(out, count, keys, true)
+    common::common(&places[..n], &places[n..], out)
 }
 
 fn united(places: &[u64], n: usize, out: &mut [u64]) -> usize
     requires { ⌜ Parted (now places) n × (length (now places) ≡ length (now out)) ⌝ }
-    ensures { λ r. ⌜ Settles 0 (sortN (now (places .entry))) (now (out .exit)) r ⌝ }
+    ensures { λ r. ⌜ Made true (take n (now (places .entry))) (drop n (now (places .entry))) (now (out .exit)) r ⌝ }
 {
     exchange::merge(&places[..n], &places[n..], out);
     settle::settle(out, 0)
-}
-
-fn shared(places: &[u64], n: usize, out: &mut [u64]) -> usize
-    requires { ⌜ Parted (now places) n × (length (now places) ≡ length (now out)) ⌝ }
-    ensures { λ r. ⌜ Common (take n (now (places .entry))) (drop n (now (places .entry))) (now (out .exit)) r ⌝ }
-{
-    common::common(&places[..n], &places[n..], out)
 }
 
 // The count is known before the first write.

@@ -1,16 +1,31 @@
--- `join` makes the union or the common part.
-use mathlib.Core.Bool.{true, false}
-use Rattle.area.specs.Ends.{by-all}
+-- `join` makes the tiles of both lists' places, and the list of them.
+use mathlib.Core.Path.{sym, _∙_}
+use Rattle.area.specs.Ends.{front-length, front-parted, made-listed}
 use borrow.Author.Needs.{needs}
 use Rattle.area.proofs.join.Statement.{statement}
 use Rattle.area.proofs.join.Tie as tie
 use Rattle.area.proofs.join.Reads as reads
 use Rattle.area.proofs.join.Lts as lts
-use Rattle.area.proofs.share.Reads as share-reads
-use Rattle.area.proofs.unite.Reads as unite-reads
+use Rattle.area.proofs.made.Reads as made-reads
+use Rattle.tile_list.proofs.finish.Reads as finish-reads
 
-unite-requires : tie.Need-unite-requires
-unite-requires c κs = search needs
+add-both : tie.Need-add-both
+add-both c = search needs
+
+slice-reshare-prefix-made : tie.Need-slice-reshare-prefix-made
+slice-reshare-prefix-made c = search needs
+
+slice-aggregate-made : tie.Need-slice-aggregate-made
+slice-aggregate-made c = let s = c .before .before .before .before .before in sym (front-length (s .args .a .now) (s .args .b .now) (s .args .keys .now) (s .pre .0))
+
+made-requires : tie.Need-made-requires
+made-requires c κs =
+    let s = c .before .before .before .before .before .before in
+    let r = s .pre .0 in
+    (front-parted (s .args .a .now) (s .args .b .now) (s .args .keys .now) r, front-length (s .args .a .now) (s .args .b .now) (s .args .keys .now) r ∙ s .pre .1)
+
+finish-requires : tie.Need-finish-requires
+finish-requires c κs = search needs
 
 same-length : tie.Need-same-length
 same-length c = search needs
@@ -19,29 +34,18 @@ same-length-2 : tie.Need-same-length-2
 same-length-2 c = search needs
 
 returns : tie.Need-returns
-returns c = let a = c .before .before .before .before .before .before .before .before .before .before .before .before .args in by-all (a .a .now) (a .b .now) true (c .before .before .before .before .before .before .before .if1 .taken) (c .before .before .before .before .unite .ensures)
-
-share-requires : tie.Need-share-requires
-share-requires c κs = search needs
-
-same-length-3 : tie.Need-same-length-3
-same-length-3 c = search needs
-
-same-length-4 : tie.Need-same-length-4
-same-length-4 c = search needs
-
-returns-2 : tie.Need-returns-2
-returns-2 c = let a = c .before .before .before .before .before .before .before .before .before .before .before .before .args in by-all (a .a .now) (a .b .now) false (c .before .before .before .before .before .before .before .if1 .left) (c .before .before .before .before .share .ensures)
+returns c =
+    let s = c .before .before .before .before .before .before .before .before .before .before .before .before .before .before .before .before in made-listed (s .args .a .now) (s .args .b .now) (s .args .keys .now) (s .pre .0) (c .before .before .before .before .before .before .before .before .before .made .ensures) (c .before .before .before .before .finish .ensures)
 
 pub join-spec : {M : Type 1} → statement M
 join-spec =
     tie.close
     (tie.spec
-    unite-requires
+    add-both
+    slice-reshare-prefix-made
+    slice-aggregate-made
+    made-requires
+    finish-requires
     same-length
     same-length-2
-    returns
-    share-requires
-    same-length-3
-    same-length-4
-    returns-2)
+    returns)

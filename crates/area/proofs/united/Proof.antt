@@ -1,7 +1,7 @@
 -- `united`: both lists in one order, and settled.
 use mathlib.Core.Path.{sym}
 use lib.Seq.{length-take-le}
-use Rattle.area.specs.Runs.{parted-merge, merged-ready, merged-settles}
+use Rattle.area.specs.Runs.{parted-merge, merged-ready, merged-made}
 use borrow.Author.Needs.{needs}
 use Rattle.area.proofs.united.Statement.{statement}
 use Rattle.area.proofs.united.Tie as tie
@@ -36,7 +36,7 @@ same-length c = search needs
 
 returns : tie.Need-returns
 returns c =
-    let s = c .before .before .before .before .before .before .before .before .before .before .before .before in merged-settles (s .args .places .now) (s .args .n) (s .pre .0) (c .before .before .before .before .before .before .merge .ensures) (c .before .before .settle .ensures)
+    let s = c .before .before .before .before .before .before .before .before .before .before .before .before in merged-made (s .args .places .now) (s .args .n) (s .pre .0) (c .before .before .before .before .before .before .merge .ensures) (c .before .before .settle .ensures)
 
 pub united-spec : {M : Type 1} → statement M
 united-spec =
