@@ -6,23 +6,18 @@ use Rattle.exports.proofs.give.Reads as reads
 use Rattle.exports.proofs.give.Lts as lts
 use Rattle.errors.proofs.number.Reads as number-reads
 
--- src/lib.rt:54:24
 enum-known-answer : tie.Need-enum-known-answer
 enum-known-answer c = search needs
 
--- src/lib.rt:58:24
 enum-known-answer-2 : tie.Need-enum-known-answer-2
 enum-known-answer-2 c = search needs
 
--- src/lib.rt:60:13
 number-requires : tie.Need-number-requires
 number-requires c κs = search needs
 
--- src/lib.rt:50:1
 returns : tie.Need-returns
 returns c = search needs
 
--- src/lib.rt:50:1
 returns-2 : tie.Need-returns-2
 returns-2 c = rw (c .number .ensures, c .before .before .answer2 .given .1)
 

@@ -8,19 +8,15 @@ use Rattle.exports.proofs.nori_simplify.Lts as lts
 use Rattle.exports.proofs.give.Reads as give-reads
 use Rattle.merge.proofs.simplify.Reads as simplify-reads
 
--- src/lib.rt:46:9
 simplify-requires : tie.Need-simplify-requires
 simplify-requires c κs = search needs
 
--- src/lib.rt:47:5
 give-requires : tie.Need-give-requires
 give-requires c κs = search needs
 
--- src/lib.rt:42:1
 same-length : tie.Need-same-length
 same-length c = search needs
 
--- src/lib.rt:42:1
 returns : tie.Need-returns
 returns c = let r = c .before .before .before .before .simplify in handed-on (r .result) _ _ _ (c .give .ensures) (r .ensures)
 
