@@ -1,8 +1,20 @@
 //! The lists that are timed: of any size, and the same on every run.
-use utiles_core::to_id;
+use std::f64::consts::PI;
+
+use utiles_core::{from_id, to_id};
+
+use crate::proved;
 
 pub const WORKLOADS: [(&str, fn(usize) -> Vec<u64>); 4] =
     [("dense city", city), ("scattered", scattered), ("nested, with repeats", nested), ("complete level", level)];
+
+/// Pairs of settled lists, each of n entries.
+pub const PAIRS: [(&str, fn(usize) -> (Vec<u64>, Vec<u64>)); 4] = [
+    ("dense city", cities),
+    ("scattered", |n| parts(n, scattered)),
+    ("nested, settled", |n| parts(n, nested)),
+    ("holes", holes),
+];
 
 /// xorshift64*
 struct Random(u64);
@@ -26,9 +38,8 @@ impl Random {
     }
 }
 
-/// The n tiles of zoom 14 that are nearest to a centre, by a distance that is ragged in blocks.
-fn city(n: usize) -> Vec<u64> {
-    let mut random = Random::new(n);
+/// The n tiles of zoom 14 that are nearest to a centre, by a distance that is ragged in blocks: the nearest first.
+fn nearest(n: usize, centre: (i64, i64), random: &mut Random) -> Vec<u64> {
     let half = (n as f64).sqrt() as i64 + 8;
     let rough: Vec<i64> = (0..64 * 64).map(|_| random.below(half as u64 / 2 + 1) as i64).collect();
     let mut tiles: Vec<(i64, i64, i64)> = Vec::new();
@@ -40,7 +51,13 @@ fn city(n: usize) -> Vec<u64> {
     }
     tiles.sort_unstable();
     tiles.truncate(n);
-    let mut list: Vec<u64> = tiles.iter().map(|&(_, x, y)| to_id((8800 + x) as u32, (5370 + y) as u32, 14)).collect();
+    tiles.iter().map(|&(_, x, y)| to_id((centre.0 + x) as u32, (centre.1 + y) as u32, 14)).collect()
+}
+
+/// The nearest tiles to a centre, shuffled.
+fn city(n: usize) -> Vec<u64> {
+    let mut random = Random::new(n);
+    let mut list = nearest(n, (8800, 5370), &mut random);
     random.shuffle(&mut list);
     list
 }
@@ -101,4 +118,68 @@ pub fn mirrored(list: Vec<u64>) -> Vec<Vec<u64>> {
         list.iter().map(turn).collect()
     };
     (0..images).map(image).collect()
+}
+
+pub fn settled(list: &[u64]) -> Vec<u64> {
+    let mut out = vec![0; list.len()];
+    let count = proved::simplify(list, &mut out);
+    out.truncate(count);
+    out
+}
+
+fn united(a: &[u64], b: &[u64]) -> Vec<u64> {
+    let mut out = vec![0; a.len() + b.len()];
+    let count = proved::union(a, b, &mut out);
+    out.truncate(count);
+    out
+}
+
+/// The settled list of any number of tiles, part by part.
+fn area(mut tiles: Vec<u64>) -> Vec<u64> {
+    tiles.sort_unstable();
+    tiles.chunks(65536).fold(Vec::new(), |area, part| united(&area, &settled(part)))
+}
+
+/// Two areas of n entries each: more tiles are drawn until there are as many, and the last entries, above n, are left out.
+fn drawn(n: usize, draw: impl Fn(usize) -> (Vec<u64>, Vec<u64>)) -> (Vec<u64>, Vec<u64>) {
+    let mut tiles = n;
+    loop {
+        let (mut a, mut b) = draw(tiles);
+        let fewest = a.len().min(b.len());
+        if fewest >= n {
+            a.truncate(n);
+            b.truncate(n);
+            return (a, b);
+        }
+        tiles += tiles * (n - fewest) / (2 * n) + tiles / 64 + 1;
+    }
+}
+
+/// Two cities whose centres are so far apart that about half of each lies in the other.
+fn cities(n: usize) -> (Vec<u64>, Vec<u64>) {
+    drawn(n, |tiles| {
+        let mut random = Random::new(tiles);
+        // By whole blocks, so that both cut up the quadtree alike.
+        let apart = 4 * (0.16 * (tiles as f64 / PI).sqrt()) as i64;
+        let mut city = |x| area(nearest(tiles, (x, 5370), &mut random));
+        (city(8800), city(8800 + apart))
+    })
+}
+
+/// Two parts of one list, about half of each in the other.
+fn parts(n: usize, fill: fn(usize) -> Vec<u64>) -> (Vec<u64>, Vec<u64>) {
+    drawn(n, |tiles| {
+        let list = fill(tiles + tiles / 2);
+        (area(list[..tiles].to_vec()), area(list[tiles / 2..].to_vec()))
+    })
+}
+
+/// A city, and in each tile of its settled list one tile that is three zooms deeper: the city without them has nine entries for one.
+fn holes(n: usize) -> (Vec<u64>, Vec<u64>) {
+    let mut random = Random::new(n);
+    let (city, _) = cities(n);
+    let mut inside = |n: u32| 8 * n + random.below(8) as u32;
+    let deeper: Vec<u64> = city.iter().map(|&id| from_id(id)).map(|t| to_id(inside(t.x), inside(t.y), t.z + 3)).collect();
+    let deeper = settled(&deeper);
+    (city, deeper)
 }
