@@ -51,6 +51,17 @@ named-append : (tile : ℕ → Tile) (a b : List ℕ) (t : Tile) → named tile 
 unfolding named
 named-append tile a b t = any-append (λ n. same (tile n) t) a b
 
+-- the places name the tiles that the list names
+places-named : (list : List ℕ) → allOf isEntry list ≡ true → named placeTile (placesOf list) ≡ listed list
+places-named list e = sort-named placeTile (map (entryKey true) list) ∙ keys-named true list e
+
+places-cover : (list : List ℕ) → allOf isEntry list ≡ true → Cover maxZoom (groundOf list) (λ t. named placeTile (placesOf list) t ≡ true)
+places-cover list e = rw (places-named list e) (listed-covers list e)
+
+places-tops : (list : List ℕ) → allOf isEntry list ≡ true → isSettled list ≡ true
+    → (t : Tile) → named placeTile (placesOf list) t ≡ true → 0 < t .z → Full maxZoom (groundOf list) (parentTile t) → ⊥
+places-tops list e s = rw (places-named list e) (settled-tops list s e)
+
 -- two lists that have passed the tests
 module _ (a b : List ℕ) (passed : pairTests a b ≡ 0) where
   both : (allOf isEntry a && allOf isEntry b ≡ true) × (isSettled a && isSettled b ≡ true)
@@ -67,17 +78,6 @@ module _ (a b : List ℕ) (passed : pairTests a b ≡ 0) where
 
   settled-b : isSettled b ≡ true
   settled-b = and-parts (isSettled a) (isSettled b) (both .1) .1
-
-  -- the places name the tiles that the list names
-  places-named : (list : List ℕ) → allOf isEntry list ≡ true → named placeTile (placesOf list) ≡ listed list
-  places-named list e = sort-named placeTile (map (entryKey true) list) ∙ keys-named true list e
-
-  places-cover : (list : List ℕ) → allOf isEntry list ≡ true → Cover maxZoom (groundOf list) (λ t. named placeTile (placesOf list) t ≡ true)
-  places-cover list e = rw (places-named list e) (listed-covers list e)
-
-  places-tops : (list : List ℕ) → allOf isEntry list ≡ true → isSettled list ≡ true
-      → (t : Tile) → named placeTile (placesOf list) t ≡ true → 0 < t .z → Full maxZoom (groundOf list) (parentTile t) → ⊥
-  places-tops list e s = rw (places-named list e) (settled-tops list s e)
 
   -- the sets that the code makes are the settled lists that are promised
   pub join-entries : (all : Bool) → entriesInOrder (madeSet all (placesOf a) (placesOf b)) ≡ joinEntries all a b
@@ -114,6 +114,9 @@ module _ (a b keys : List ℕ) (r : Ready a b keys) where
   pub front-length : length front ≡ length a + length b
   front-length = length-take-le (length a + length b) keys (r .long)
 
+  pub front-left : without (take (length a) front) (drop (length a) front) ≡ without (placesOf a) (placesOf b)
+  front-left = ap₂ without front-first front-second
+
   pub front-parted : Parted front (length a)
   front-parted = record {
     within = omega (arith, front-length);
@@ -136,13 +139,10 @@ module _ (a b keys : List ℕ) (r : Ready a b keys) where
     abbrev tiles-left : List Tile
     tiles-left = without (placesOf a) (placesOf b)
 
-    its : without (take (length a) ahead) (drop (length a) ahead) ≡ tiles-left
-    its = ap₂ without (front-first a b keys r) (front-second a b keys r)
-
     pub left-all : (take n after ≡ map placeOf tiles-left) × (n ≤ length after)
     left-all =
-        let w : after ≡ map placeOf tiles-left = m .written ∙ (ap (λ (l : List Tile). sets before 0 (map placeOf l)) its ∙ sets-full before (map placeOf tiles-left) (length-map tiles-left placeOf ∙ sym e)) in
-        let c : n ≡ length after = m .count ∙ (ap length its ∙ sym (ap length w ∙ length-map tiles-left placeOf)) in
+        let w : after ≡ map placeOf tiles-left = m .written ∙ (ap (λ (l : List Tile). sets before 0 (map placeOf l)) (front-left a b keys r) ∙ sets-full before (map placeOf tiles-left) (length-map tiles-left placeOf ∙ sym e)) in
+        let c : n ≡ length after = m .count ∙ (ap length (front-left a b keys r) ∙ sym (ap length w ∙ length-map tiles-left placeOf)) in
         (take-all n after (omega arith) ∙ w, omega arith)
 
     pub left-numbers : TileNumbers placeOf (take n after)
@@ -207,7 +207,7 @@ module _ (a b keys memory : List ℕ) (r : Ready a b keys) where
 
   -- what the code counted
   pub counted-left : {n : ℕ} → n ≡ length (without (take (length a) (front a b keys r)) (drop (length a) (front a b keys r))) → n ≡ length remains
-  counted-left e = e ∙ ap length (ap₂ without (front-first a b keys r) (front-second a b keys r))
+  counted-left e = e ∙ ap length (front-left a b keys r)
 
   pub remaining-done : (n : ℕ) → n ≡ length (without (take (length a) (front a b keys r)) (drop (length a) (front a b keys r))) → (after : List ℕ) (m : ℕ)
       → n ≤ length memory → length after ≡ length (take n memory) → Listed (leftSet a b) after m

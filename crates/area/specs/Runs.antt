@@ -75,10 +75,10 @@ module _ (places : List ℕ) (n : ℕ) where
     merged-sorted e = e ∙ ap sortN (ap (λ (l : List ℕ). take n places ++ l) tail-part ∙ take-append-drop n places)
 
     pub parted-numbers : TileNumbers placeOf places
-    parted-numbers = subst (TileNumbers placeOf) (take-append-drop n places) both'
+    parted-numbers = subst (TileNumbers placeOf) (take-append-drop n places) each
       where
-        both' : TileNumbers placeOf (take n places ++ drop n places)
-        both' k m = ⊎-elim (runs-numbers (take n places) (p .first) k) (runs-numbers (drop n places) (p .second) k) (List·Memᴰ·append-cases (take n places) m)
+        each : TileNumbers placeOf (take n places ++ drop n places)
+        each k m = ⊎-elim (runs-numbers (take n places) (p .first) k) (runs-numbers (drop n places) (p .second) k) (List·Memᴰ·append-cases (take n places) m)
 
     pub merged-ready : {merged : List ℕ} → merged ≡ sortN (take n places ++ take (length places - n) (drop n places))
         → TileNumbers placeOf merged × By (λ n. n) merged

@@ -80,13 +80,13 @@ module _ (a b t : List ℕ) (e : length a + length b ≡ length t) where
       → Tested b yb second → SettledBoth a b (refilled ya yb) second
   both-settled ya yb first second l k f m = record { answer = rw (← (sym (not-false first f) ∙ k .answer)) (m .answer); in-runs = in-runs }
     where
-      yes' : first ≡ true
-      yes' = not-false first f
+      passed : first ≡ true
+      passed = not-false first f
 
       in-runs : second ≡ true → InRuns a b (refilled ya yb)
       in-runs g = record {
-        places = both-parts t ya (length a) fits l yb ∙ ap₂ _++_ (k .in-order yes') (m .in-order g);
-        first = rw (← k .in-order yes') (k .runs yes');
+        places = both-parts t ya (length a) fits l yb ∙ ap₂ _++_ (k .in-order passed) (m .in-order g);
+        first = rw (← k .in-order passed) (k .runs passed);
         second = rw (← m .in-order g) (m .runs g);
       }
 
@@ -99,10 +99,6 @@ first-keys a b keys e = ap (take (length a)) e ∙ take-at (map (entryKey true) 
 
 pub second-keys : (a b keys : List ℕ) → keys ≡ map (entryKey true) a ++ map (entryKey true) b → drop (length a) keys ≡ map (entryKey true) b
 second-keys a b keys e = ap (drop (length a)) e ∙ drop-at (map (entryKey true) a) (map (entryKey true) b) (length a) (length-map a (entryKey true))
-
-pub keys-long : (a b keys : List ℕ) → keys ≡ map (entryKey true) a ++ map (entryKey true) b → length a + length b ≡ length keys
-keys-long a b keys e =
-    sym (ap length e ∙ (length-append (map (entryKey true) a) (map (entryKey true) b) ∙ rw (length-map a (entryKey true), length-map b (entryKey true))))
 
 pub keyed-entries : (a b keys : List ℕ) → KeyedBoth a b keys true → (allOf isEntry a ≡ true) × (allOf isEntry b ≡ true)
 keyed-entries a b keys k = and-parts (allOf isEntry a) (allOf isEntry b) (sym (k .answer))
