@@ -31,12 +31,12 @@ use Rattle.ids.specs.Entry.{isEntry}
 use Rattle.quadtree.specs.Lists.{entryKey, TileNumbers}
 use Rattle.quadtree.specs.Numbers.{placeOf, placeTile}
 use Rattle.settle.specs.Settle.{tiles}
+use Rattle.settled.specs.Laws.{places-named}
 use Rattle.settled.specs.Settled.{isSettled}
 use Rattle.sort.specs.Laws.{sort-length}
 use Rattle.tile.specs.declared.Tile.{Tile}
 use Rattle.tile_list.specs.Finish.{Listed, listed-filled}
-use Rattle.tile_list.specs.Laws.{keys-named, sort-named}
-use Rattle.tile_list.specs.List.{same, named, listed, entriesInOrder, filled}
+use Rattle.tile_list.specs.List.{same, named, entriesInOrder, filled}
 use Rattle.tile_set.specs.Set.{parentTile}
 use Rattle.area.specs.Tests.{pair-few}
 use Rattle.area.specs.Runs.{runs-numbers, runs-count}
@@ -50,10 +50,6 @@ tests-passed false s h = absurd (omega arith)
 named-append : (tile : ℕ → Tile) (a b : List ℕ) (t : Tile) → named tile (a ++ b) t ≡ named tile a t || named tile b t
 unfolding named
 named-append tile a b t = any-append (λ n. same (tile n) t) a b
-
--- the places name the tiles that the list names
-places-named : (list : List ℕ) → allOf isEntry list ≡ true → named placeTile (placesOf list) ≡ listed list
-places-named list e = sort-named placeTile (map (entryKey true) list) ∙ keys-named true list e
 
 places-cover : (list : List ℕ) → allOf isEntry list ≡ true → Cover maxZoom (groundOf list) (λ t. named placeTile (placesOf list) t ≡ true)
 places-cover list e = rw (places-named list e) (listed-covers list e)

@@ -1,31 +1,29 @@
 -- What the test of a settled list says: it is true of a list of entries exactly where its tiles are settled.
-use mathlib.Core.Path.{_≡_, refl, sym, ap, _∙_}
+use mathlib.Core.Path.{_≡_, refl, sym, _∙_}
 use mathlib.Core.Logic.{_↔_}
-use mathlib.Core.Bool.{Bool, true, false, not, _&&_, true≢false}
+use mathlib.Core.Bool.{Bool, true, false, _&&_, true≢false}
 use mathlib.Core.List.{List, [], _∷_, List·Memᴰ, Memᴰ·cast}
 use Prim.Native.Nat.{ℕ, _<_}
-use native.Mathlib.Decide.{decLt}
 use native.Mathlib.Omega.{arith}
 use borrow.Author.Tests.{eq-eqb}
 use Rattle.area.specs.Area.{tilesOf, groundOf, settledEntries}
 use Rattle.area.specs.Grounds.{settled-tiles, listed-covers}
-use Rattle.bits.specs.Tests.{and-parts, not-true, allOf, all-in, in-all, in-map, into-map}
+use Rattle.bits.specs.Tests.{and-parts, allOf, all-in, in-all, in-map, into-map}
 use Rattle.constants.specs.Limits.{maxZoom}
 use Rattle.ground.specs.Ground.{Settled}
 use Rattle.ground.specs.Largest.{Full, parents-not-full}
 use Rattle.ground.specs.Theorems.{settled-list-settled}
 use Rattle.ids.specs.Entry.{entryTile, isEntry, entry-accepted}
+use Rattle.settled.specs.Laws.{noneBeside, noneWith, apart-beside, beside-apart, four-with, with-four}
 use Rattle.settled.specs.Order.{is-before, before-is}
-use Rattle.settled.specs.Settled.{isBefore, strictlyInOrder, besideAncestor, withSiblings, isSettled}
+use Rattle.settled.specs.Settled.{isBefore, strictlyInOrder, isSettled}
 use Rattle.tile.specs.Order.{Before}
 use Rattle.tile.specs.declared.Tile.{Tile}
 use Rattle.tile_list.specs.Laws.{named-by, names, listed-within, map-tile}
 use Rattle.tile_list.specs.List.{listed}
-use Rattle.tile_set.specs.Holds.{Holds, holds-level, ancestor-holds, holder-is-ancestor, parent-of-child}
 use Rattle.tile_set.specs.InOrder.{Ordered}
-use Rattle.tile_set.specs.Merged.{is-false, whole-all, joins-when}
+use Rattle.tile_set.specs.Merged.{Apart, is-false, whole-all}
 use Rattle.tile_set.specs.Set.{ancestor, parentTile, child, whole}
-use Rattle.tile_set.specs.Uncovered.{any-below-of, any-below-in}
 
 in-tiles : (list : List ℕ) (t : Tile) → List·Memᴰ t (tilesOf list) → listed list t ≡ true
 in-tiles list t m = let s = in-map entryTile list m in names entryTile list (s .0) t (s .1) (sym (s .2))
@@ -54,32 +52,19 @@ ordered-rises (a ∷ list) o =
 
 -- the three parts of the test
 module _ (list : List ℕ) (e : isSettled list ≡ true) where
-  parts : (strictlyInOrder list ≡ true) × (allOf (λ n. not (besideAncestor list (entryTile n))) list ≡ true) × (allOf (λ n. not (withSiblings list (entryTile n))) list ≡ true)
+  parts : (strictlyInOrder list ≡ true) × (noneBeside list ≡ true) × (noneWith list ≡ true)
   unfolding isSettled
   parts =
       let p = and-parts (strictlyInOrder list) _ e in
-      let q = and-parts (allOf (λ n. not (besideAncestor list (entryTile n))) list) _ (p .1) in
+      let q = and-parts (noneBeside list) (noneWith list) (p .1) in
       (p .0, q .0, q .1)
 
-  pub settled-apart : (s t : Tile) → listed list s ≡ true → listed list t ≡ true → Holds s t → s ≡ t
-  settled-apart s t i j h = pick (decLt (s .z) (t .z))
-    where
-      pick : Dec (s .z < t .z) → s ≡ t
-      pick (no k) = holds-level h (omega arith)
-      pick (yes k) =
-          let n = named-by entryTile list t j in
-          let a = not-true _ (all-in (λ n. not (besideAncestor list (entryTile n))) list (parts .1) (n .1)) in
-          let b = any-below-in (t .z) (λ s. listed list (ancestor t s)) (s .z) k (sym (ap (listed list) (holder-is-ancestor h)) ∙ i) in
-          absurd (true≢false (sym b ∙ (ap (besideAncestor list) (sym (n .2)) ∙ a)))
+  pub settled-apart : Apart (listed list)
+  settled-apart = beside-apart list (parts .1)
 
   pub settled-no-four : (p : Tile) → listed list (child p 0 0) ≡ true → listed list (child p 0 1) ≡ true → listed list (child p 1 0) ≡ true
       → listed list (child p 1 1) ≡ true → ⊥
-  settled-no-four p a b c d =
-      let n = named-by entryTile list (child p 0 0) a in
-      let none : withSiblings list (entryTile (n .0)) ≡ false = not-true _ (all-in (λ n. not (withSiblings list (entryTile n))) list (parts .2) (n .1)) in
-      let q : whole (listed list) p ≡ true = rw (a, b, c, d) in
-      let j = joins-when 0 (listed list) (child p 0 0) .1 (omega arith, ap (whole (listed list)) (parent-of-child p 0 0 (omega arith) (omega arith)) ∙ q) in
-      true≢false (sym j ∙ (ap (withSiblings list) (sym (n .2)) ∙ none))
+  settled-no-four p a b c d = let q : whole (listed list) p ≡ true = rw (a, b, c, d) in true≢false (sym q ∙ with-four list (parts .2) p)
 
   -- no parent of a tile of the list lies whole in its ground
   pub settled-tops : allOf isEntry list ≡ true → (t : Tile) → listed list t ≡ true → 0 < t .z → Full maxZoom (groundOf list) (parentTile t) → ⊥
@@ -101,29 +86,20 @@ settled-test list = (says, said)
         }
 
     said : Settled maxZoom (tilesOf list) → (allOf isEntry list && isSettled list) ≡ true
-    said s = rw (in-all isEntry list entry, ordered-rises list (s .in-order), in-all (λ n. not (besideAncestor list (entryTile n))) list alone, in-all (λ n. not (withSiblings list (entryTile n))) list lone)
+    said s = rw (in-all isEntry list entry, ordered-rises list (s .in-order), apart-beside list apart, four-with list four)
       where
         entry : (n : ℕ) → List·Memᴰ n list → isEntry n ≡ true
         entry n m = eq-eqb _ _ (entry-accepted n (map-tile (entryTile n) (s .of-map (entryTile n) (into-map entryTile list m))))
 
-        alone : (n : ℕ) → List·Memᴰ n list → not (besideAncestor list (entryTile n)) ≡ true
-        alone n m = rw (is-false (besideAncestor list (entryTile n)) (λ e. clash (any-below-of (entryTile n .z) (λ s. listed list (ancestor (entryTile n) s)) e)))
-          where
-            t : Tile
-            t = entryTile n
+        apart : Apart (listed list)
+        apart a b p q = s .apart a b (tiles-in list a p) (tiles-in list b q)
 
-            clash : (i : ℕ) × (i < t .z) × (listed list (ancestor t i) ≡ true) → ⊥
-            clash (i, h, k) =
-                let e : ancestor t i ≡ t = s .apart (ancestor t i) t (tiles-in list _ k) (into-map entryTile list m) (ancestor-holds t i (omega arith)) in
-                let z : i ≡ t .z = ap (λ (u : Tile). u .z) e in
-                omega arith
-
-        lone : (n : ℕ) → List·Memᴰ n list → not (withSiblings list (entryTile n)) ≡ true
-        lone n m = rw (is-false (withSiblings list (entryTile n)) (λ e. clash (whole-all (listed list) (parentTile (entryTile n)) .0 (joins-when 0 (listed list) (entryTile n) .0 e .1))))
+        four : (p : Tile) → whole (listed list) p ≡ false
+        four p = is-false (whole (listed list) p) (λ w. none (whole-all (listed list) p .0 w))
           where
-            clash : ((i j : ℕ) → i < 2 → j < 2 → listed list (child (parentTile (entryTile n)) i j) ≡ true) → ⊥
-            clash f =
-                s .no-four (parentTile (entryTile n)) (tiles-in list _ (f 0 0 (omega arith) (omega arith))) (tiles-in list _ (f 0 1 (omega arith) (omega arith)))
+            none : ((i j : ℕ) → i < 2 → j < 2 → listed list (child p i j) ≡ true) → ⊥
+            none f =
+                s .no-four p (tiles-in list _ (f 0 0 (omega arith) (omega arith))) (tiles-in list _ (f 0 1 (omega arith) (omega arith)))
                 (tiles-in list _ (f 1 0 (omega arith) (omega arith))) (tiles-in list _ (f 1 1 (omega arith) (omega arith)))
 
 -- the settled list of a set is settled by the test too

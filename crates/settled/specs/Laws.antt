@@ -36,13 +36,13 @@ use Rattle.settled.specs.Walk.{named-among, at-named}
 
 -- no entry stands beside an ancestor where no listed tile holds another, and none with its siblings where none of them are all there
 module _ (list : List ℕ) where
-  abbrev noneBeside : Bool
+  abbrev pub noneBeside : Bool
   noneBeside = allOf (λ n. not (besideAncestor list (entryTile n))) list
 
-  abbrev noneWith : Bool
+  abbrev pub noneWith : Bool
   noneWith = allOf (λ n. not (withSiblings list (entryTile n))) list
 
-  apart-beside : Apart (listed list) → noneBeside ≡ true
+  pub apart-beside : Apart (listed list) → noneBeside ≡ true
   apart-beside apart = in-all (λ n. not (besideAncestor list (entryTile n))) list (λ n m. ap not (is-false (besideAncestor list (entryTile n)) (never n m)))
     where
       never : (n : ℕ) → List·Memᴰ n list → besideAncestor list (entryTile n) ≡ true → ⊥
@@ -52,7 +52,7 @@ module _ (list : List ℕ) where
           let q = apart (ancestor t (s .0)) t (s .2) (names entryTile list n t m refl) (ancestor-holds t (s .0) (omega (arith, s .1))) in
           omega (arith, ap (λ (u : Tile). u .z) q, s .1)
 
-  beside-apart : noneBeside ≡ true → Apart (listed list)
+  pub beside-apart : noneBeside ≡ true → Apart (listed list)
   beside-apart e a b p q g = pick (decLt (a .z) (b .z))
     where
       beside : a .z < b .z → ⊥
@@ -66,11 +66,11 @@ module _ (list : List ℕ) where
       pick (yes l) = absurd (beside l)
       pick (no l) = holds-level g (omega arith)
 
-  four-with : ((p : Tile) → whole (listed list) p ≡ false) → noneWith ≡ true
+  pub four-with : ((p : Tile) → whole (listed list) p ≡ false) → noneWith ≡ true
   four-with none = in-all (λ n. not (withSiblings list (entryTile n))) list (λ n m. ap not (is-false (withSiblings list (entryTile n)) (λ e.
       true≢false (sym (joins-when 0 (listed list) (entryTile n) .0 e .1) ∙ none _))))
 
-  with-four : noneWith ≡ true → (p : Tile) → whole (listed list) p ≡ false
+  pub with-four : noneWith ≡ true → (p : Tile) → whole (listed list) p ≡ false
   with-four e p = is-false (whole (listed list) p) never
     where
       never : whole (listed list) p ≡ true → ⊥
@@ -109,6 +109,10 @@ apart-runs l numbers up apart = record { each = place-at l numbers; rise = rise 
             let e = apart (tiles l j) (tiles l i) (at-named l j k refl) (at-named l i (omega arith) refl) g in
             absurd (omega (arith, less, ap placeOf e))
 
+-- the places of a list's tiles, in order, name the tiles that the list names
+pub places-named : (list : List ℕ) → allOf isEntry list ≡ true → named placeTile (sortN (map (entryKey true) list)) ≡ listed list
+places-named list e = sort-named placeTile (map (entryKey true) list) ∙ keys-named true list e
+
 -- what the code's steps tell: b says whether the list is strictly in order, and the places of its tiles are sorted
 pub not-in-order : (list places : List ℕ) (b : Bool) → b ≡ strictlyInOrder list → not b ≡ true → Tested list places false
 unfolding isSettled
@@ -122,7 +126,7 @@ module _ (list keys places : List ℕ) (e : allOf isEntry list ≡ true) (k : ke
   sorted-places = rw sorted (sort-numbers placeOf (map (entryKey true) list) (keys-of-tiles true list e))
 
   same : named placeTile places ≡ listed list
-  same = ap (named placeTile) sorted ∙ (sort-named placeTile (map (entryKey true) list) ∙ keys-named true list e)
+  same = ap (named placeTile) sorted ∙ places-named list e
 
   module _ (b : Bool) (f : b ≡ strictlyInOrder list) (g : not b ≡ false) (r : Bool) (l : Lone places r) where
     order : strictlyInOrder list ≡ true
