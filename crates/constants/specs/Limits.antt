@@ -14,7 +14,24 @@ maxEntries = 65536
 unfoldable pub maxBoxes : ℕ
 maxBoxes = 32
 
+-- the most bytes of a line, without its newline
+unfoldable pub maxLine : ℕ
+maxLine = 4096
+
+-- the most brackets that may be open in a line
+unfoldable pub maxOpen : ℕ
+maxOpen = 16
+
+-- the places of each list of a form
+unfoldable pub formPlaces : ℕ
+formPlaces = 256
+
 -- columns and rows of the deepest zoom fit 32 bits with one to spare, and a box's count of tiles fits 64
 pub maxZoom-small : maxZoom ≤ 30
 unfolding maxZoom
 maxZoom-small = omega arith
+
+-- a line has fewer keys than a list may have entries
+pub lines-in-entries : maxLine ≤ maxEntries
+unfolding maxLine maxEntries
+lines-in-entries = omega arith

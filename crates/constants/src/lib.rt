@@ -8,3 +8,12 @@ pub const MAX_ENTRIES: usize = 65536;
 
 // The most boxes that are summed.
 pub const MAX_BOXES: usize = 32;
+
+// The most bytes of a line, without its newline.
+pub const MAX_LINE: usize = 4096;
+
+// The most brackets that may be open in a line.
+pub const MAX_OPEN: usize = 16;
+
+// The places of each list of a form.
+pub const FORM_PLACES: usize = 256;

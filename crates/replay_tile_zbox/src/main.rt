@@ -15,6 +15,11 @@ use tile_zbox::ExtentAnswer;
 use tile_zbox::NextAnswer;
 use tile_zbox::TileZBox;
 use tile_zbox::TileZBoxIterator;
+ghost use mathlib.Core.Path.{_≡_};
+ghost use Prim.Native.Nat.{_≤_};
+ghost use lib.ListN.{length, take};
+ghost use Rattle.errors.specs.Cases.{u64Case};
+ghost use Rattle.tile_zbox.specs.Boxes.{boxesLengthOf};
 
 enum BoxArg {
     Given(TileZBox),
@@ -86,28 +91,69 @@ fn from_tiles(given: &[u64], want: &[u64]) -> bool {
     same_box(TileZBox::from_tiles(parts::numbers(given, 1, n)), want)
 }
 
-// The count of the boxes, then five numbers of each.
+// The count of the boxes, then five numbers of each: they are summed as numbers, and as records.
 fn boxes_length(given: &[u64], want: &[u64]) -> bool {
     if given.len() == 0 {
         return false;
     }
     let n = given.len() - 1;
-    if n > 256 {
-        return false;
-    }
     if n % 5 != 0 || given[0] != (n / 5) as u64 {
         return false;
     }
-    let mut room = [0u32; 256];
+    let boxes = parts::numbers(given, 1, n);
+    if !numbers_length(boxes, want) {
+        return false;
+    }
+    records_length(boxes, want)
+}
+
+fn numbers_length(boxes: &[u64], want: &[u64]) -> bool {
+    let n = boxes.len();
+    if n > 200 {
+        return false;
+    }
+    let mut room = [0u32; 200];
     let mut i = 0;
     while i < n {
-        let U32Arg::Given(number) = args::u32_at(given, i + 1) else {
+        let U32Arg::Given(number) = args::u32_at(boxes, i) else {
             return false;
         };
         room[i] = number;
         i += 1;
     }
     answers::same_u64(tile_zbox::boxes_length(&room[..n]), want)
+}
+
+fn records_length(boxes: &[u64], want: &[u64]) -> bool {
+    let n = boxes.len() / 5;
+    if n > 40 {
+        return false;
+    }
+    let mut room = [TileZBox {
+        zoom: 0,
+        minx: 0,
+        maxx: 0,
+        miny: 0,
+        maxy: 0,
+    }; 40];
+    let mut i = 0;
+    while i < n {
+        let BoxArg::Given(b) = box_at(parts::numbers(boxes, i * 5, 5)) else {
+            return false;
+        };
+        room[i] = b;
+        i += 1;
+    }
+    answers::same_u64(lend(room, n), want)
+}
+
+// The first n boxes are lent. The borrow checker covers no function that makes a slice of structs: this one is proved by hand, so that
+// the others need not be.
+fn lend(boxes: [TileZBox; 40], n: usize) -> U64Answer
+    requires { ⌜ n ≤ length boxes ⌝ }
+    ensures { λ r. ⌜ u64Case r ≡ boxesLengthOf (take n boxes) ⌝ }
+{
+    tile_zboxes::boxes_length(&boxes[..n])
 }
 
 fn of_box(name: &[u8], b: TileZBox, want: &[u64]) -> bool {

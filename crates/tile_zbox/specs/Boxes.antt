@@ -1,5 +1,6 @@
--- Boxes as plain numbers, five for each: zoom, minx, maxx, miny, maxy. The sum of their lengths, and the flipped boxes.
-use mathlib.Core.Bool.{Bool, not, _||_}
+-- Several boxes: the refusals of whoever sends them, and the sum of their lengths. The same of boxes as plain numbers, five for each: zoom, minx, maxx,
+-- miny, maxy, and the flipped boxes.
+use mathlib.Core.Bool.{Bool, not}
 use mathlib.Core.List.{List, [], _∷_, map}
 use Prim.Native.Nat.{ℕ, zero, suc, _+_, _/_, _%_}
 use lib.Dec.{ltb, eqb}
@@ -9,6 +10,23 @@ use Rattle.constants.specs.Limits.{maxZoom, maxBoxes}
 use Rattle.errors.specs.Answer.{Answer, Lent, answer, written, _when_, _else_}
 use Rattle.tile_zbox.specs.Box.{boxAt, wrongEdges, boxLength, flipped}
 use Rattle.tile_zbox.specs.declared.TileZBox.{TileZBox}
+
+abbrev pub deep : TileZBox → Bool
+deep b = ltb maxZoom (b .zoom)
+
+-- the lowest number over boxes and a count: a zoom, the count, then a box upside down or off the map
+unfoldable pub refusalOver : List TileZBox → ℕ → ℕ
+refusalOver bs n = 1 when anyOf deep bs else 6 when ltb maxBoxes n else 10 when anyOf wrongEdges bs
+
+abbrev pub boxesRefusal : List TileZBox → ℕ
+boxesRefusal bs = refusalOver bs (length bs)
+
+unfoldable pub sumLengths : List TileZBox → ℕ
+sumLengths [] = 0
+sumLengths (b ∷ bs) = boxLength b + sumLengths bs
+
+abbrev pub boxesLengthOf : List TileZBox → Answer ℕ
+boxesLengthOf bs = answer (boxesRefusal bs) 0 (sumLengths bs)
 
 -- the box of the first five numbers
 abbrev pub boxFrom : List ℕ → TileZBox
@@ -22,19 +40,12 @@ boxesFrom (suc n) list = boxFrom list ∷ boxesFrom n (drop 5 list)
 abbrev pub boxesOf : List ℕ → List TileZBox
 boxesOf list = boxesFrom (length list / 5) list
 
-abbrev pub deep : TileZBox → Bool
-deep b = ltb maxZoom (b .zoom)
+-- the refusal of the boxes; numbers left over are no box
+unfoldable pub numbersRefusal : List ℕ → ℕ
+numbersRefusal list = boxesRefusal (boxesOf list) else 10 when not (eqb (length list % 5) 0)
 
--- the lowest number over all boxes and the count: a zoom, the count, then an upside down box or one off the map, or numbers left over
-unfoldable pub boxesRefusal : List ℕ → ℕ
-boxesRefusal list = 1 when anyOf deep (boxesOf list) else 6 when ltb maxBoxes (length list / 5) else 10 when (not (eqb (length list % 5) 0) || anyOf wrongEdges (boxesOf list))
-
-unfoldable pub sumLengths : List TileZBox → ℕ
-sumLengths [] = 0
-sumLengths (b ∷ bs) = boxLength b + sumLengths bs
-
-abbrev pub boxesLengthOf : List ℕ → Answer ℕ
-boxesLengthOf list = answer (boxesRefusal list) 0 (sumLengths (boxesOf list))
+abbrev pub numbersLengthOf : List ℕ → Answer ℕ
+numbersLengthOf list = answer (numbersRefusal list) 0 (sumLengths (boxesOf list))
 
 abbrev pub numbers : TileZBox → List ℕ
 numbers b = b .zoom ∷ b .minx ∷ b .maxx ∷ b .miny ∷ b .maxy ∷ []
@@ -47,4 +58,4 @@ abbrev pub flippedNumbers : List ℕ → List ℕ
 flippedNumbers list = numbersOf (map flipped (boxesOf list))
 
 abbrev pub boxesFlipOf : List ℕ → List ℕ → Lent ℕ
-boxesFlipOf list memory = written (boxesRefusal list) (flippedNumbers list) memory
+boxesFlipOf list memory = written (numbersRefusal list) (flippedNumbers list) memory

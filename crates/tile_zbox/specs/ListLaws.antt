@@ -1,6 +1,6 @@
 -- Laws of the lists that boxes are made of: entries one by one, and boxes five numbers by five numbers.
 use mathlib.Core.Path.{_≡_, refl, sym, ap, _∙_}
-use mathlib.Core.Bool.{Bool, true, false, not, _||_}
+use mathlib.Core.Bool.{Bool, true, false, not}
 use mathlib.Core.List.{List, [], _∷_, _++_, map, map-append, append-assoc}
 use Prim.Native.Nat.{ℕ, zero, suc, _+_, _-_, _*_, _/_, _%_, _^_, _≤_, _<_, min, max}
 use native.Mathlib.Nat.{mul-le-mul, mul-le-mul-right, add-zero, max-zero}
@@ -14,12 +14,13 @@ use borrow.Author.Tests.{ltb-false, lt-ltb, le-ltb, eqb-true, eqb-false, eq-eqb,
 use Rattle.bits.specs.Tests.{allOf, all-at, anyOf}
 use Rattle.constants.specs.Limits.{maxZoom, maxEntries, maxBoxes}
 use Rattle.errors.specs.Answer.{_when_, _else_}
+use Rattle.errors.specs.Laws.{else-none}
 use Rattle.errors.specs.Memory.{front}
 use Rattle.ids.specs.Entry.{entryTile, entryRefusal, isEntry}
 use Rattle.tile_zbox.specs.Around.{ofZoom, firstZoom, listRefusal, least, greatest, columnOf, rowOf, boxAround, grown}
 use Rattle.tile_zbox.specs.Box.{IsBox, boxAt, wrongEdges, boxLength, flipped}
-use Rattle.tile_zbox.specs.Boxes.{boxFrom, boxesFrom, boxesOf, deep, boxesRefusal, sumLengths, numbers, numbersOf, flippedNumbers}
-use Rattle.tile_zbox.specs.Laws.{neither, edges-fine, length-within}
+use Rattle.tile_zbox.specs.Boxes.{boxFrom, boxesFrom, boxesOf, deep, refusalOver, boxesRefusal, numbersRefusal, sumLengths, numbers, numbersOf, flippedNumbers}
+use Rattle.tile_zbox.specs.Laws.{neither, edges-fine, fine-edges, length-within}
 use Rattle.tile_zbox.specs.declared.TileZBox.{TileZBox}
 
 pub entry-at : (l : List ℕ) (i : ℕ) → allOf isEntry l ≡ true → i < length l → entryRefusal (getD l i 0) ≡ 0
@@ -147,6 +148,9 @@ fine-first b bs f =
     let q = none-of wrongEdges b bs (f .edges) in
     (edges-fine b (ltb-false _ _ (p .0)) (q .0), record { shallow = p .1; edges = q .1 })
 
+pub fine-more : {b : TileZBox} {bs : List TileZBox} → IsBox b → Fine bs → Fine (b ∷ bs)
+fine-more {b} {bs} h f = record { shallow = any-later deep b bs (le-ltb _ _ (h .zoom)) ∙ f .shallow; edges = any-later wrongEdges b bs (fine-edges h) ∙ f .edges }
+
 -- the zoom of the next box, as the code reads it
 pub first-zoom : (l : List ℕ) (at : ℕ) → getD (drop at l) 0 0 ≡ getD l at 0
 first-zoom l at = getD-drop at l 0 0 ∙ rw (add-zero at)
@@ -157,43 +161,65 @@ zoom-at n at l h e =
     let z : getD (drop at l) 0 0 ≤ maxZoom = ltb-false maxZoom (getD (drop at l) 0 0) (p .0) in
     rw (first-zoom l at) at z
 
+-- boxes that are not refused are those of the map, in a number that is taken
+pub over-accepted : {bs : List TileZBox} {n : ℕ} → Fine bs → n ≤ maxBoxes → refusalOver bs n ≡ 0
+unfolding refusalOver
+over-accepted f h = rw (f .shallow, le-ltb _ _ h, f .edges)
+
+pub accepted-over : (bs : List TileZBox) (n : ℕ) → refusalOver bs n ≡ 0 → Fine bs × (n ≤ maxBoxes)
+unfolding refusalOver
+accepted-over bs n e = pick (anyOf deep bs) refl (ltb maxBoxes n) refl (anyOf wrongEdges bs) refl e
+  where
+    pick : (a : Bool) → anyOf deep bs ≡ a → (b : Bool) → ltb maxBoxes n ≡ b → (c : Bool) → anyOf wrongEdges bs ≡ c → (1 when a else 6 when b else 10 when c) ≡ 0 → Fine bs × (n ≤ maxBoxes)
+    pick true p b q c r e = absurd (omega arith)
+    pick false p true q c r e = absurd (omega arith)
+    pick false p false q true r e = absurd (omega arith)
+    pick false p false q false r e = (record { shallow = p; edges = r }, ltb-false _ _ q)
+
 -- the refusals of numbers that are boxes, each where the tests before it find nothing
-pub boxes-deep : (l : List ℕ) → anyOf deep (boxesOf l) ≡ true → boxesRefusal l ≡ 1
-unfolding boxesRefusal
+pub boxes-deep : (l : List ℕ) → anyOf deep (boxesOf l) ≡ true → numbersRefusal l ≡ 1
+unfolding numbersRefusal refusalOver
 boxes-deep l e = rw e
 
-pub boxes-many : (l : List ℕ) → anyOf deep (boxesOf l) ≡ false → maxBoxes < length l / 5 → boxesRefusal l ≡ 6
-unfolding boxesRefusal
-boxes-many l e h = rw (e, lt-ltb _ _ h)
+pub boxes-many : (l : List ℕ) → anyOf deep (boxesOf l) ≡ false → maxBoxes < length l / 5 → numbersRefusal l ≡ 6
+unfolding numbersRefusal refusalOver
+boxes-many l e h = rw (e, boxes-count (length l / 5) l, lt-ltb _ _ h)
 
-pub boxes-over : (l : List ℕ) → anyOf deep (boxesOf l) ≡ false → length l / 5 ≤ maxBoxes → (length l % 5 ≡ 0 → ⊥) → boxesRefusal l ≡ 10
-unfolding boxesRefusal
-boxes-over l e h f = rw (e, le-ltb _ _ h, ne-eqb _ _ f)
+pub boxes-over : (l : List ℕ) → anyOf deep (boxesOf l) ≡ false → length l / 5 ≤ maxBoxes → (length l % 5 ≡ 0 → ⊥) → numbersRefusal l ≡ 10
+unfolding numbersRefusal refusalOver
+boxes-over l e h f = rw (e, boxes-count (length l / 5) l, le-ltb _ _ h, ne-eqb _ _ f) (either (anyOf wrongEdges (boxesOf l)))
+  where
+    either : (b : Bool) → (10 when b) else 10 ≡ 10
+    either true = refl
+    either false = refl
 
-pub boxes-wrong : (l : List ℕ) → anyOf deep (boxesOf l) ≡ false → length l / 5 ≤ maxBoxes → length l % 5 ≡ 0 → anyOf wrongEdges (boxesOf l) ≡ true → boxesRefusal l ≡ 10
-unfolding boxesRefusal
-boxes-wrong l e h f g = rw (e, le-ltb _ _ h, eq-eqb _ _ f, g)
+pub boxes-wrong : (l : List ℕ) → anyOf deep (boxesOf l) ≡ false → length l / 5 ≤ maxBoxes → anyOf wrongEdges (boxesOf l) ≡ true → numbersRefusal l ≡ 10
+unfolding numbersRefusal refusalOver
+boxes-wrong l e h g = rw (e, boxes-count (length l / 5) l, le-ltb _ _ h, g)
 
 pub record AllBoxes (l : List ℕ) : Type 0 where
   pub fine : Fine (boxesOf l)
   pub few : length l / 5 ≤ maxBoxes
   pub whole : length l % 5 ≡ 0
 
-pub all-boxes-accepted : {l : List ℕ} → AllBoxes l → boxesRefusal l ≡ 0
-unfolding boxesRefusal
-all-boxes-accepted k = rw (k .fine .shallow, le-ltb _ _ (k .few), eq-eqb _ _ (k .whole), k .fine .edges)
+-- numbers for whole boxes are refused as the boxes are
+pub whole-refusal : (l : List ℕ) → length l % 5 ≡ 0 → numbersRefusal l ≡ boxesRefusal (boxesOf l)
+unfolding numbersRefusal
+whole-refusal l e = rw (eq-eqb _ _ e) (else-none _)
 
-pub accepted-all-boxes : (l : List ℕ) → boxesRefusal l ≡ 0 → AllBoxes l
-unfolding boxesRefusal
-accepted-all-boxes l e = pick (anyOf deep (boxesOf l)) refl (ltb maxBoxes (length l / 5)) refl (eqb (length l % 5) 0) refl (anyOf wrongEdges (boxesOf l)) refl e
+pub all-boxes-accepted : {l : List ℕ} → AllBoxes l → numbersRefusal l ≡ 0
+all-boxes-accepted {l} k = whole-refusal l (k .whole) ∙ over-accepted (k .fine) (rw (boxes-count (length l / 5) l) (k .few))
+
+pub accepted-all-boxes : (l : List ℕ) → numbersRefusal l ≡ 0 → AllBoxes l
+unfolding numbersRefusal
+accepted-all-boxes l e = pick (boxesRefusal (boxesOf l)) refl (eqb (length l % 5) 0) refl e
   where
-    pick : (a : Bool) → anyOf deep (boxesOf l) ≡ a → (b : Bool) → ltb maxBoxes (length l / 5) ≡ b → (c : Bool) → eqb (length l % 5) 0 ≡ c → (d : Bool) → anyOf wrongEdges (boxesOf l) ≡ d
-        → (1 when a else 6 when b else 10 when (not c || d)) ≡ 0 → AllBoxes l
-    pick true p b q c r d s e = absurd (omega arith)
-    pick false p true q c r d s e = absurd (omega arith)
-    pick false p false q false r d s e = absurd (omega arith)
-    pick false p false q true r true s e = absurd (omega arith)
-    pick false p false q true r false s e = record { fine = record { shallow = p; edges = s }; few = ltb-false _ _ q; whole = eqb-true _ _ r }
+    pick : (a : ℕ) → boxesRefusal (boxesOf l) ≡ a → (b : Bool) → eqb (length l % 5) 0 ≡ b → a else 10 when not b ≡ 0 → AllBoxes l
+    pick (suc a) p b q e = absurd (omega arith)
+    pick zero p false q e = absurd (omega arith)
+    pick zero p true q e =
+        let k = accepted-over (boxesOf l) (length (boxesOf l)) p in
+        record { fine = k .0; few = rw (boxes-count (length l / 5) l) at (k .1); whole = eqb-true _ _ q }
 
 -- the sum of as many boxes as are taken fits 64 bits, whatever their zoom
 boxes-limit : maxBoxes * (2 ^ maxZoom * 2 ^ maxZoom) < 2 ^ 64
@@ -210,12 +236,14 @@ sum-within (b ∷ bs) f =
     let i = sum-within bs (k .1) in
     omega (arith, length-within (k .0))
 
-pub sum-fits : (l : List ℕ) → boxesRefusal l ≡ 0 → sumLengths (boxesOf l) < 2 ^ 64
-sum-fits l e =
-    let k = accepted-all-boxes l e in
-    let w = rw (boxes-count (length l / 5) l) at (sum-within (boxesOf l) (k .fine)) in
-    let m : length l / 5 * (2 ^ maxZoom * 2 ^ maxZoom) ≤ maxBoxes * (2 ^ maxZoom * 2 ^ maxZoom) = mul-le-mul-right (2 ^ maxZoom * 2 ^ maxZoom) (k .few) in
+pub fine-fits : (bs : List TileZBox) → Fine bs → length bs ≤ maxBoxes → sumLengths bs < 2 ^ 64
+fine-fits bs f h =
+    let w = sum-within bs f in
+    let m : length bs * (2 ^ maxZoom * 2 ^ maxZoom) ≤ maxBoxes * (2 ^ maxZoom * 2 ^ maxZoom) = mul-le-mul-right (2 ^ maxZoom * 2 ^ maxZoom) h in
     omega (arith, boxes-limit)
+
+pub sum-fits : (l : List ℕ) → numbersRefusal l ≡ 0 → sumLengths (boxesOf l) < 2 ^ 64
+sum-fits l e = let k = accepted-all-boxes l e in fine-fits (boxesOf l) (k .fine) (rw (boxes-count (length l / 5) l) (k .few))
 
 pub sum-step : (b : TileZBox) (bs : List TileZBox) → sumLengths (b ∷ bs) ≡ boxLength b + sumLengths bs
 unfolding sumLengths

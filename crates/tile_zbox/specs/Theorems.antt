@@ -3,13 +3,13 @@ use mathlib.Core.Path.{_≡_, refl, sym, ap, _∙_, subst}
 use mathlib.Core.Logic.{_↔_}
 use mathlib.Core.Bool.{Bool, true, false}
 use mathlib.Core.List.{List, [], _∷_, map, List·Memᴰ}
-use Prim.Native.Nat.{ℕ, zero, suc, _+_, _-_, _*_, _/_, _^_, _≤_, _<_}
+use Prim.Native.Nat.{ℕ, zero, suc, _+_, _-_, _*_, _/_, _%_, _^_, _≤_, _<_}
 use native.Mathlib.Nat.{pow-suc, min-le-left, min-le-right, le-max-left, le-max-right, le-min, max-le}
 use native.Mathlib.Omega.{arith}
 use lib.ListN.{length, getD}
 use lib.Pow.{pow-pos}
 use borrow.Author.Tests.{le-ltb, lt-ltb, eqb-true}
-use Rattle.bits.specs.Tests.{all-at}
+use Rattle.bits.specs.Tests.{all-at, anyOf, in-any}
 use Rattle.constants.specs.Limits.{maxZoom, maxBoxes}
 use Rattle.errors.specs.Answer.{Answer}
 use Rattle.ids.specs.Entry.{entryTile, accepted-entry}
@@ -17,10 +17,10 @@ use Rattle.tile.specs.OnMap.{OnMap, tileAt, on-map-accepted}
 use Rattle.tile.specs.declared.Tile.{Tile}
 use Rattle.tile_zbox.specs.Around.{ofZoom, firstZoom, listRefusal, least, greatest, columnOf, rowOf, boxAround}
 use Rattle.tile_zbox.specs.Box.{IsBox, boxAt, wrongEdges, boxRefusal, inBox, containsOf, flipRow, flipped, flipOf, zoomedIn, zoomedBy, zoomInOf, zoomDepthOf, boxLength, lengthOf}
-use Rattle.tile_zbox.specs.Boxes.{boxesFrom, boxesOf, deep, boxesRefusal, sumLengths, boxesLengthOf, numbersOf}
+use Rattle.tile_zbox.specs.Boxes.{boxesFrom, boxesOf, deep, refusalOver, sumLengths, boxesLengthOf, numbersLengthOf, numbersOf}
 use Rattle.tile_zbox.specs.Cursor.{cursorAt, kthTile, ended, nextOf}
 use Rattle.tile_zbox.specs.Laws.{box-accepted, accepted-box, scaled-below}
-use Rattle.tile_zbox.specs.ListLaws.{accepted-one-zoom, entry-at, Fine, any-none, all-boxes-accepted, numbers-length}
+use Rattle.tile_zbox.specs.ListLaws.{accepted-one-zoom, entry-at, Fine, any-none, over-accepted, whole-refusal, numbers-length}
 use Rattle.tile_zbox.specs.Tiles.{Holds, holds-in, in-holds, tilesOf, numberedFrom, numbered-all, numbered-length, member-number, number-member, kth-holds, placeOf, place-below, kth-of-place, place-of-kth, Gives, next-ends, gives-numbered}
 use Rattle.tile_zbox.specs.declared.TileZBox.{TileZBox}
 
@@ -231,17 +231,36 @@ unfolding boxesFrom numbersOf
 the-numbers-lead-back [] = refl
 the-numbers-lead-back (b ∷ bs) = ap (λ (l : List TileZBox). b ∷ l) (the-numbers-lead-back bs)
 
--- the sum of the lengths, overlaps counted twice, of boxes of the map that are not too many
-pub boxes-length-is-the-sum : (bs : List TileZBox) → Fine bs → length bs ≤ maxBoxes → boxesLengthOf (numbersOf bs) ≡ record { number = 0; value = sumLengths bs }
-boxes-length-is-the-sum bs f h =
+-- five numbers for each box are answered as the boxes are, refused or not
+pub numbers-as-boxes : (l : List ℕ) → length l % 5 ≡ 0 → numbersLengthOf l ≡ boxesLengthOf (boxesOf l)
+numbers-as-boxes l e = rw (whole-refusal l e)
+
+pub boxes-as-numbers : (bs : List TileZBox) → numbersLengthOf (numbersOf bs) ≡ boxesLengthOf bs
+boxes-as-numbers bs =
     let n : length (numbersOf bs) / 5 ≡ length bs = omega (arith, numbers-length bs) in
     let e : boxesOf (numbersOf bs) ≡ bs = ap (λ (k : ℕ). boxesFrom k (numbersOf bs)) n ∙ the-numbers-lead-back bs in
-    let a : boxesRefusal (numbersOf bs) ≡ 0 = all-boxes-accepted (record { fine = rw e f; few = omega arith; whole = omega (arith, numbers-length bs) }) in
-    rw (a, e)
+    numbers-as-boxes (numbersOf bs) (omega (arith, numbers-length bs)) ∙ ap boxesLengthOf e
+
+-- the sum of the lengths, overlaps counted twice, of boxes of the map that are not too many
+pub boxes-length-is-the-sum : (bs : List TileZBox) → Fine bs → length bs ≤ maxBoxes → boxesLengthOf bs ≡ record { number = 0; value = sumLengths bs }
+boxes-length-is-the-sum bs f h = let a = over-accepted f h in rw a
+
+-- one box of a zoom above the deepest is 1, however many there are; without one, too many are 6, whatever their edges; and a wrong one among a few is 10
+pub a-deep-box-is-1 : (bs : List TileZBox) (b : TileZBox) → List·Memᴰ b bs → maxZoom < b .zoom → boxesLengthOf bs ≡ record { number = 1; value = 0 }
+unfolding refusalOver
+a-deep-box-is-1 bs b m h = rw (in-any deep bs m (lt-ltb _ _ h))
+
+pub too-many-boxes-are-6 : (bs : List TileZBox) → anyOf deep bs ≡ false → maxBoxes < length bs → boxesLengthOf bs ≡ record { number = 6; value = 0 }
+unfolding refusalOver
+too-many-boxes-are-6 bs e h = rw (e, lt-ltb _ _ h)
+
+pub a-wrong-box-is-10 : (bs : List TileZBox) (b : TileZBox) → anyOf deep bs ≡ false → length bs ≤ maxBoxes → List·Memᴰ b bs → wrongEdges b ≡ true → boxesLengthOf bs ≡ record { number = 10; value = 0 }
+unfolding refusalOver
+a-wrong-box-is-10 bs b e h m w = rw (e, le-ltb _ _ h, in-any wrongEdges bs m w)
 
 -- "No box: 0"
 pub no-box-is-0 : boxesLengthOf [] ≡ record { number = 0; value = 0 }
-unfolding numbersOf sumLengths
+unfolding sumLengths
 no-box-is-0 = boxes-length-is-the-sum [] none (omega arith)
   where
     none : Fine []

@@ -23,7 +23,7 @@ ghost use Rattle.ids.specs.Entry.{entryTile, entryRefusal, isEntry};
 ghost use Rattle.tile.specs.OnMap.{tileAt};
 ghost use Rattle.tile_zbox.specs.Around.{ofZoom, listRefusal, grown, boxAround, fromTilesOf};
 ghost use Rattle.tile_zbox.specs.Box.{IsBox, wrongRun, wrongEdges, boxRefusal, boxCase, extentCase, newOf, fromTileOf, inRun, inBox, containsPlaced, containsOf, flipped, flipOf, zoomedBy, zoomInOf, zoomDepthOf, columnsOf, rowsOf, boxLength, lengthOf, dxOf, dyOf, dxdyOf, dimensionsOf};
-ghost use Rattle.tile_zbox.specs.Boxes.{deep, boxFrom, boxesOf, boxesRefusal, sumLengths, boxesLengthOf, numbers, flippedNumbers, boxesFlipOf};
+ghost use Rattle.tile_zbox.specs.Boxes.{deep, sumLengths, boxFrom, boxesOf, numbersRefusal, numbersLengthOf, numbers, flippedNumbers, boxesFlipOf};
 ghost use Rattle.tile_zbox.specs.Cursor.{cursorAt, kthTile, nextCase, stepFrom, nextOf};
 
 pub struct TileZBox {
@@ -484,7 +484,7 @@ fn higher(a: u32, b: u32) -> u32
 
 // The sum of the boxes' lengths, overlaps counted twice.
 pub fn boxes_length(boxes: &[u32]) -> U64Answer
-    ensures { λ r. ⌜ u64Case r ≡ boxesLengthOf (now (boxes .entry)) ⌝ }
+    ensures { λ r. ⌜ u64Case r ≡ numbersLengthOf (now (boxes .entry)) ⌝ }
 {
     match boxes_check(boxes) {
         Check::Fine => U64Answer::Number(sum(boxes)),
@@ -493,7 +493,7 @@ pub fn boxes_length(boxes: &[u32]) -> U64Answer
 }
 
 fn sum(boxes: &[u32]) -> u64
-    requires { ⌜ boxesRefusal (now boxes) ≡ 0 ⌝ }
+    requires { ⌜ numbersRefusal (now boxes) ≡ 0 ⌝ }
     ensures { λ r. ⌜ r ≡ sumLengths (boxesOf (now (boxes .entry))) ⌝ }
 {
     let mut left = boxes.len() / 5;
@@ -525,7 +525,7 @@ pub fn boxes_flipy(boxes: &[u32], out: &mut [u32]) -> Count
 }
 
 fn flip_all(boxes: &[u32], out: &mut [u32])
-    requires { ⌜ boxesRefusal (now boxes) ≡ 0 ⌝ }
+    requires { ⌜ numbersRefusal (now boxes) ≡ 0 ⌝ }
     requires { ⌜ length (now boxes) ≤ length (now out) ⌝ }
     ensures { λ _. ⌜ now (out .exit) ≡ flippedNumbers (now (boxes .entry)) ++ drop (length (now (boxes .entry))) (now (out .entry)) ⌝ }
 {
@@ -551,7 +551,7 @@ fn put(out: &mut [u32], at: usize, b: TileZBox)
 
 // The lowest number over all boxes and their count.
 fn boxes_check(boxes: &[u32]) -> Check
-    ensures { λ r. ⌜ checkNumber r ≡ boxesRefusal (now (boxes .entry)) ⌝ }
+    ensures { λ r. ⌜ checkNumber r ≡ numbersRefusal (now (boxes .entry)) ⌝ }
 {
     if any_deep(boxes) {
         return Check::Refused(Refusal::Zoom);

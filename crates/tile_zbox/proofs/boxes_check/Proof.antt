@@ -1,4 +1,4 @@
--- `tile_zbox::boxes_check` meets its contract: each branch's test is the one that `boxesRefusal` makes there.
+-- `tile_zbox::boxes_check` meets its contract: each branch's test is the one that `numbersRefusal` makes there.
 use mathlib.Core.Path.{_≡_, sym, _∙_}
 use mathlib.Core.Bool.{false}
 use native.Mathlib.Omega.{arith}
@@ -32,7 +32,7 @@ any-wrong-requires c κs = shallow (c .before .before)
 
 returns-4 : tie.Need-returns-4
 unfolding maxBoxes
-returns-4 c = sym (boxes-wrong _ (shallow (c .before .before .before .before)) (c .before .before .before .if2 .left) (c .before .before .if3 .left) (sym (c .before .any-wrong .ensures) ∙ c .if4 .taken))
+returns-4 c = sym (boxes-wrong _ (shallow (c .before .before .before .before)) (c .before .before .before .if2 .left) (sym (c .before .any-wrong .ensures) ∙ c .if4 .taken))
 
 returns-5 : tie.Need-returns-5
 unfolding maxBoxes

@@ -1,39 +1,24 @@
--- `replay_tile_zbox::boxes_length` is safe and ends: there is room for every number.
+-- `replay_tile_zbox::numbers_length` is safe and ends: there is room for every number.
 use mathlib.Core.Path.{_≡_, sym}
 use Prim.Native.Nat.{_-_}
 use native.Mathlib.Omega.{arith}
 use lib.ListN.{length}
 use lib.Seq.{length-take-le}
 use borrow.Author.Needs.{needs}
-use Rattle.replay_tile_zbox.proofs.boxes_length.Statement.{statement}
-use Rattle.replay_tile_zbox.proofs.boxes_length.Tie as tie
+use Rattle.replay_tile_zbox.proofs.numbers_length.Statement.{statement}
+use Rattle.replay_tile_zbox.proofs.numbers_length.Tie as tie
 
 abbrev Inv-loop : tie.InvT-loop
-Inv-loop given want n room₀ i₀ room i = length room ≡ 256
+Inv-loop boxes want n room₀ i₀ room i = length room ≡ 200
 
 abbrev μ-loop : tie.MeasureT-loop
-μ-loop given want n room₀ i₀ room i = n - i
+μ-loop boxes want n room₀ i₀ room i = n - i
 
 returns : tie.Need-returns Inv-loop μ-loop
 returns c = search needs
 
-sub-n : tie.Need-sub-n Inv-loop μ-loop
-sub-n c = search needs
-
-returns-2 : tie.Need-returns-2 Inv-loop μ-loop
-returns-2 c = search needs
-
-shared-slice-read-if4 : tie.Need-shared-slice-read-if4 Inv-loop μ-loop
-shared-slice-read-if4 c = search needs
-
-returns-3 : tie.Need-returns-3 Inv-loop μ-loop
-returns-3 c = search needs
-
 loop-holds : tie.Need-loop-holds Inv-loop μ-loop
 loop-holds c = search needs
-
-add-u32-at : tie.Need-add-u32-at Inv-loop μ-loop
-add-u32-at c = search needs
 
 u32-at-requires : tie.Need-u32-at-requires Inv-loop μ-loop
 u32-at-requires c κs = search needs
@@ -44,8 +29,8 @@ enum-known-number c = search needs
 enum-told : tie.Need-enum-told Inv-loop μ-loop
 enum-told c = search needs
 
-returns-4 : tie.Need-returns-4 Inv-loop μ-loop
-returns-4 c = search needs
+returns-2 : tie.Need-returns-2 Inv-loop μ-loop
+returns-2 c = search needs
 
 mul-room : tie.Need-mul-room Inv-loop μ-loop
 mul-room c = search needs
@@ -74,26 +59,21 @@ boxes-length-requires c κs = search needs
 same-u64-requires : tie.Need-same-u64-requires Inv-loop μ-loop
 same-u64-requires c κs = search needs
 
-returns-5 : tie.Need-returns-5 Inv-loop μ-loop
-returns-5 c = search needs
+returns-3 : tie.Need-returns-3 Inv-loop μ-loop
+returns-3 c = search needs
 
-pub boxes-length-spec : {M : Type 1} → statement M
-boxes-length-spec =
+pub numbers-length-spec : {M : Type 1} → statement M
+numbers-length-spec =
     tie.close
     (tie.spec
     Inv-loop
     μ-loop
     returns
-    sub-n
-    returns-2
-    shared-slice-read-if4
-    returns-3
     loop-holds
-    add-u32-at
     u32-at-requires
     enum-known-number
     enum-told
-    returns-4
+    returns-2
     mul-room
     array-write-room
     add-i
@@ -103,4 +83,4 @@ boxes-length-spec =
     slice-aggregate-boxes-length
     boxes-length-requires
     same-u64-requires
-    returns-5)
+    returns-3)

@@ -1,0 +1,28 @@
+-- `pair_front` meets its contract: the bracket, the word and the space are counted.
+use borrow.Author.Needs.{needs}
+use Rattle.form.proofs.pair_front.Statement.{statement}
+use Rattle.form.proofs.pair_front.Tie as tie
+use Rattle.form.proofs.pair_front.Reads as reads
+use Rattle.form.proofs.pair_front.Lts as lts
+
+enum-told : tie.Need-enum-told
+enum-told c = search needs
+
+enum-told-2 : tie.Need-enum-told-2
+enum-told-2 c = search needs
+
+enum-told-3 : tie.Need-enum-told-3
+enum-told-3 c = search needs
+
+returns : tie.Need-returns
+returns c = rw (c .enum-told .given .1)
+
+returns-2 : tie.Need-returns-2
+returns-2 c = rw (c .enum-told2 .given .1)
+
+returns-3 : tie.Need-returns-3
+returns-3 c = rw (c .enum-told3 .given .1)
+
+pub pair-front-spec : {M : Type 1} → statement M
+pair-front-spec =
+    tie.close (tie.spec enum-told enum-told-2 enum-told-3 returns returns-2 returns-3)

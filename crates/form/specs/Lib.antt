@@ -1,0 +1,10 @@
+pub mod Form
+pub mod Front
+pub mod Words
+pub mod Once
+pub mod Ends
+pub mod Pairs
+pub mod Keys
+pub mod Parse
+pub mod Reading
+pub mod Steps
