@@ -11,7 +11,8 @@ use Rattle.area.specs.Grounds.{settled-ground, settled-none, simplify-entries, 
 use Rattle.builds.specs.Account.{told, Kept, setAt, setFor, entriesFor, setOf, refusalOf, keep, account}
 use Rattle.builds.specs.Build.{Operand, own, earlier, Operation, settling, union, commonPart, difference, Build, answerOf, answerAt, handedIn, performed, run}
 use Rattle.constants.specs.Limits.{maxZoom}
-use Rattle.errors.specs.Answer.{Lent, lent, _else_}
+use Rattle.errors.specs.Answer.{Lent, lent}
+use Rattle.errors.specs.Laws.{else-zero}
 use Rattle.ground.specs.Ground.{Same}
 use Rattle.tile_list.specs.Laws.{accepted-entries}
 use Rattle.tile_list.specs.List.{listed, entriesInOrder, placesRefusal, listAnswer}
@@ -67,10 +68,6 @@ agree-lent zero items memory G e =
     record { refusal = refl; answer = t ∙ e; count = ap length (sym t) }
 agree-lent (suc n) items memory G e = record { refusal = refl; answer = sym settled-none; count = refl }
 
-else-zero : (n m : ℕ) → n else m ≡ 0 → n ≡ 0
-else-zero zero m e = refl
-else-zero (suc n) m e = absurd (omega arith)
-
 -- one call more
 module _ (rs : List (Lent ℕ)) (ks : List Kept) (b : Beside rs ks) where
   abbrev set : Operand → ℕ → ℕ → Bool
@@ -86,7 +83,7 @@ module _ (rs : List (Lent ℕ)) (ks : List Kept) (b : Beside rs ks) where
       rw (same-entries rs ks b a)
       (agree-listed (refusalOf ks (record { asked = settling a; places = length memory })) (list a)
       (entriesInOrder (simplified maxZoom 0 (listed (list a)))) memory (set a)
-      (λ e. simplify-entries (list a) (accepted-entries (list a) (else-zero _ _ e)) ∙ settled-same (groundOf (list a)) (set a) (same-set rs ks b a)))
+      (λ e. simplify-entries (list a) (accepted-entries (list a) (else-zero _ _ e .0)) ∙ settled-same (groundOf (list a)) (set a) (same-set rs ks b a)))
   agree (union p q) memory =
       rw (same-entries rs ks b p, same-entries rs ks b q)
       (agree-listed (refusalOf ks (record { asked = union p q; places = length memory })) (list p ++ list q) (unionEntries (list p) (list q)) memory

@@ -38,9 +38,10 @@ refused-answer why none v e = let p = positive why in rw (e, p .1)
 pub refused-lent : (why : Refusal) {n : ℕ} (items memory : List ℕ) → n ≡ numberOf why → left (count.Refused why) memory ≡ lent n items memory
 refused-lent why items memory e = let p = positive why in rw (e, p .1)
 
-pub else-assoc : (a b c : ℕ) → (a else b) else c ≡ a else (b else c)
-else-assoc zero b c = refl
-else-assoc (suc a) b c = refl
+-- where a chain refuses nothing, no part of it does
+pub else-zero : (n m : ℕ) → n else m ≡ 0 → (n ≡ 0) × (m ≡ 0)
+else-zero zero m e = (refl, e)
+else-zero (suc n) m e = absurd (omega (arith, e))
 
 -- what a check says, in either case
 pub check-fine : {r : Check} {n : ℕ} → r ≡ check.Fine → checkNumber r ≡ n → n ≡ 0

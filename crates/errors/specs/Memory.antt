@@ -4,7 +4,7 @@ use mathlib.Core.List.{List, _++_, append-assoc}
 use Prim.Native.Nat.{ℕ, suc, _≤_, _<_}
 use native.Mathlib.Omega.{arith}
 use lib.ListN.{length, take, drop, getD, set, length-append, length-drop}
-use lib.Seq.{take-suc, drop-cons, set-at, length-take-le, take-length}
+use lib.Seq.{take-suc, drop-cons, set-at, length-take-le}
 use borrow.Author.Tests.{lt-ltb, le-ltb}
 use Rattle.errors.specs.Answer.{numberOf, short, written}
 use Rattle.errors.specs.Cases.{left}
@@ -24,9 +24,6 @@ pub front-more : (n : ℕ) (items memory : List ℕ) → n < length items → n 
     → set (front n items memory) n (getD items n 0) ≡ front (suc n) items memory
 front-more n items memory h k =
     rw (drop-cons memory n 0 k, set-at (take n items) (getD memory n 0) (drop (suc n) memory) (getD items n 0) n (length-take-le n items (omega arith)), take-suc items n 0 h, append-assoc)
-
-pub front-all : (items memory : List ℕ) → front (length items) items memory ≡ items ++ drop (length items) memory
-front-all items memory = rw take-length
 
 -- the three ends of a call that writes a list
 pub written-refused : (why : Refusal) {n : ℕ} (items memory : List ℕ) → numberOf why ≡ n → left (count.Refused why) memory ≡ written n items memory

@@ -9,9 +9,9 @@ use native.Mathlib.Omega.{arith}
 use lib.ListN.{length, take, drop, getD, length-append, length-drop, List·getD-eq-default}
 use lib.Seq.{take-all, drop-cons, drop-drop, getD-drop}
 use Rattle.bits.specs.Tests.{and-parts}
-use Rattle.form.specs.Form.{space, opening, closing, Form, tiles, pair, isForm, wordOf, tilesWord, spaced, text}
-use Rattle.form.specs.Front.{FormFirst, KeysFirst, PairFirst, Ended}
-use Rattle.form.specs.Once.{one-form, one-keys, tiles-text, pair-text, letter-of, verbLetter, same-verb, tiles-no-verb}
+use Rattle.form.specs.Form.{space, opening, closing, Form, tiles, pair, isForm, wordOf, spaced, text}
+use Rattle.form.specs.Front.{FormFirst, KeysFirst, PairFirst}
+use Rattle.form.specs.Once.{tiles-text, pair-text, letter-of, verbLetter, same-verb, tiles-no-verb}
 use Rattle.form.specs.Words.{startsWith, starts-with, start-split, tilesFront, pairFront, wordAt}
 use Rattle.form.specs.declared.End.{End}
 use Rattle.form.specs.declared.End.the-variants.{At, Nowhere}

@@ -1,10 +1,9 @@
 -- A form, a key or a list of keys at the front of some bytes, and what follows it.
 use mathlib.Core.Path.{_≡_}
-use mathlib.Core.Bool.{Bool, true, false}
+use mathlib.Core.Bool.{true, false}
 use mathlib.Core.List.{List, [], _∷_, _++_}
 use Prim.Native.Nat.{ℕ}
-use Rattle.bits.specs.Tests.{allOf}
-use Rattle.form.specs.Form.{space, closing, Form, isKeyByte, isRun, allRuns, isForm, spaced, text, wordOf}
+use Rattle.form.specs.Form.{space, closing, Form, isKeyByte, allRuns, isForm, spaced, text}
 
 pub record FormFirst (f : Form) (rest bytes : List ℕ) : Type 0 where
   pub formed : isForm f ≡ true

@@ -1,13 +1,13 @@
 -- No line has two readings: what stands at the front of some bytes is one form, and one rest follows it.
 use mathlib.Core.Path.{_≡_, refl, sym, ap, ap₂, _∙_}
 use mathlib.Core.Bool.{true, true≢false}
-use mathlib.Core.List.{List, [], _∷_, _++_, append-assoc, append-cancel-left, head-eq-of-cons-eq, tail-eq-of-cons-eq, nil≢cons, cons≢nil, append-nil}
-use Prim.Native.Nat.{ℕ, zero, suc}
+use mathlib.Core.List.{List, [], _∷_, _++_, append-assoc, append-cancel-left, head-eq-of-cons-eq, tail-eq-of-cons-eq, nil≢cons, cons≢nil}
+use Prim.Native.Nat.{ℕ}
 use native.Mathlib.Omega.{arith}
 use lib.ListN.{getD}
 use Rattle.bits.specs.Tests.{and-parts, allOf}
-use Rattle.form.specs.Form.{space, opening, closing, Form, tiles, pair, isKeyByte, isRun, allRuns, isForm, spaced, text, wordOf, tilesWord, Reads}
-use Rattle.form.specs.Front.{FormFirst, KeysFirst, PairFirst, Ended}
+use Rattle.form.specs.Form.{space, opening, closing, Form, tiles, pair, isKeyByte, isRun, allRuns, isForm, spaced, text, wordOf, tilesWord}
+use Rattle.form.specs.Front.{FormFirst, KeysFirst, Ended}
 use Rattle.form.specs.declared.Verb.{Verb}
 use Rattle.form.specs.declared.Verb.the-variants.{Plus, Both, Minus}
 

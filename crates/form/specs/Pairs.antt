@@ -1,10 +1,9 @@
 -- Where a pair of forms ends: behind its left form stands a space, behind its right form the closing bracket.
-use mathlib.Core.Path.{_≡_, refl, sym, ap, _∙_}
-use mathlib.Core.List.{List, _∷_, _++_, head-eq-of-cons-eq, tail-eq-of-cons-eq}
-use Prim.Native.Nat.{ℕ, suc, _+_, _≤_, _<_}
-use native.Mathlib.Numerals.{add-one}
+use mathlib.Core.Path.{_≡_, sym, ap, _∙_}
+use mathlib.Core.List.{List, _∷_, _++_, tail-eq-of-cons-eq}
+use Prim.Native.Nat.{ℕ, _+_}
 use native.Mathlib.Omega.{arith}
-use lib.ListN.{length, drop, getD, length-drop}
+use lib.ListN.{drop, getD}
 use lib.Seq.{drop-drop}
 use Rattle.form.specs.Ends.{FormEnds, PairEnds, byte-there, byte-split, split-byte}
 use Rattle.form.specs.Form.{space, closing, Form, text}

@@ -1,14 +1,14 @@
 -- Whether a form stands at the front of some bytes can be told: this makes `reading` of the grammar. What it answers is in the types, so that nothing
 -- else leans on how it is found.
 use mathlib.Core.Path.{_≡_, refl, sym, ap, _∙_}
-use mathlib.Core.List.{List, _++_}
+use mathlib.Core.List.{List}
 use Prim.Native.Nat.{ℕ, zero, suc, _+_, _≤_, _<_}
 use native.Mathlib.Decide.{decLt, ℕ-discrete}
 use native.Mathlib.Omega.{arith}
 use lib.ListN.{length, drop, getD, length-append, length-drop}
 use Rattle.form.specs.Ends.{FormEnds, PairEnds, KeysEnds, Opened, opened, shifted, ends-behind, keys-form, form-keys, pair-form, form-pair}
 use Rattle.form.specs.Form.{space, closing, Form, tiles, pair}
-use Rattle.form.specs.Front.{FormFirst, KeysFirst, PairFirst}
+use Rattle.form.specs.Front.{KeysFirst, PairFirst}
 use Rattle.form.specs.Keys.{Passed, passed-none, passed-key, keys-closed, keys-broken, keys-past}
 use Rattle.form.specs.Pairs.{no-left, no-space, no-right, no-closing, a-pair}
 use Rattle.form.specs.Words.{tilesFront, pairFront, wordAt, keyLength}

@@ -1,8 +1,8 @@
 -- The reading of a line: the one form that it spells, or none. And the refusals that are judged on the whole line before any key.
 use mathlib.Core.Path.{_≡_, refl, sym, ap, _∙_}
 use mathlib.Core.Bool.{Bool, true, false, not}
-use mathlib.Core.List.{List, [], _∷_, _++_, append-nil}
-use Prim.Native.Nat.{ℕ, zero, suc, _+_, _≤_, _<_}
+use mathlib.Core.List.{List, [], _++_, append-nil}
+use Prim.Native.Nat.{ℕ, suc, _+_, _≤_, _<_}
 use native.Mathlib.Omega.{arith}
 use lib.Dec.{ltb}
 use lib.ListN.{length, drop, length-drop}
@@ -11,7 +11,7 @@ use native.Mathlib.Decide.{ℕ-discrete}
 use borrow.Author.Tests.{ltb-false, lt-ltb, le-ltb}
 use Rattle.constants.specs.Limits.{maxLine}
 use Rattle.errors.specs.Answer.{_when_, _else_}
-use Rattle.form.specs.Ends.{FormEnds, Opened, opened}
+use Rattle.form.specs.Ends.{FormEnds}
 use Rattle.form.specs.Form.{Form, text, Reads, tooDeep}
 use Rattle.form.specs.Front.{FormFirst}
 use Rattle.form.specs.Once.{one-form}

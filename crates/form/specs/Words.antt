@@ -1,13 +1,13 @@
 -- What the front of a form says that it is: the opening bracket, the word and, before two forms, a space. And the bytes of a key.
-use mathlib.Core.Path.{_≡_, refl, sym, ap, ap₂, _∙_}
+use mathlib.Core.Path.{_≡_, refl, sym, ap₂}
 use mathlib.Core.Bool.{Bool, true, false, cond, _&&_, true≢false}
-use mathlib.Core.List.{List, [], _∷_, _++_, append-assoc, nil≢cons}
+use mathlib.Core.List.{List, [], _∷_, _++_}
 use Prim.Native.Nat.{ℕ, zero, suc}
 use lib.Dec.{eqb}
 use lib.ListN.{length, drop}
 use borrow.Author.Tests.{eqb-true, eq-eqb}
 use Rattle.bits.specs.Tests.{and-parts}
-use Rattle.form.specs.Form.{space, opening, closing, Form, tiles, pair, isKeyByte, tilesWord, wordOf, spaced, text}
+use Rattle.form.specs.Form.{space, opening, isKeyByte, tilesWord, wordOf}
 use Rattle.form.specs.declared.Verb.{Verb}
 use Rattle.form.specs.declared.Verb.the-variants.{Plus, Both, Minus}
 use Rattle.form.specs.declared.Word.{Word}

@@ -1,23 +1,23 @@
 -- What the code has worked out of a form's parts is the form's area.
-use mathlib.Core.Path.{_≡_, refl, sym, ap, ap₂, _∙_, subst}
+use mathlib.Core.Path.{_≡_, refl, sym, ap, _∙_}
 use mathlib.Core.Bool.{true, false}
-use mathlib.Core.List.{List, [], _∷_, _++_, map, append-nil}
-use Prim.Native.Nat.{ℕ, zero, suc, _+_, _-_, _≤_, _<_}
+use mathlib.Core.List.{List, [], _∷_, _++_}
+use Prim.Native.Nat.{ℕ, _+_, _-_, _≤_, _<_}
 use native.Mathlib.Omega.{arith}
 use lib.Dec.{eqb}
 use lib.ListN.{length, take, drop, getD, length-drop, length-append, length-map, length-replicate}
 use lib.Seq.{take-at, drop-at, drop-drop}
 use borrow.Author.Tests.{lt-ltb, le-ltb, eq-eqb}
-use Rattle.bits.specs.Tests.{allOf, and-parts}
-use Rattle.constants.specs.Limits.{maxLine, maxEntries, formPlaces}
+use Rattle.bits.specs.Tests.{allOf}
+use Rattle.constants.specs.Limits.{maxEntries, formPlaces}
 use Rattle.errors.specs.Answer.{Answer, answer, numberOf, _else_}
-use Rattle.errors.specs.Cases.{countCase, left}
-use Rattle.errors.specs.Laws.{positive}
+use Rattle.errors.specs.Cases.{left}
+use Rattle.errors.specs.Laws.{positive, else-zero}
 use Rattle.errors.specs.declared.Count.{Count}
 use Rattle.errors.specs.declared.Count.the-variants as count
 use Rattle.errors.specs.declared.Refusal.{Refusal}
 use Rattle.errors.specs.declared.Refusal.the-variants.{Memory}
-use Rattle.form.specs.Form.{space, closing, Form, tiles, pair, spaced, text, isForm}
+use Rattle.form.specs.Form.{space, closing, Form, tiles, pair, spaced, text}
 use Rattle.form.specs.Ends.{FormEnds}
 use Rattle.form.specs.Front.{FormFirst, KeysFirst, PairFirst}
 use Rattle.form.specs.Once.{one-form}
@@ -44,15 +44,11 @@ key-is-entry key e =
     let m = key-to-tile-to-key key e .1 in
     eq-eqb _ 0 (entry-accepted (keyEntry key) (rw (entry-tile-again _ _ _ m) m))
 
-else-none-left : (n m : ℕ) → n else m ≡ 0 → (n ≡ 0) × (m ≡ 0)
-else-none-left zero m e = (refl, e)
-else-none-left (suc n) m e = absurd (omega (arith, e))
-
 runs-are-entries : (runs : List (List ℕ)) → keysRefusal runs ≡ 0 → allOf isEntry (runEntries runs) ≡ true
 unfolding keysRefusal allOf
 runs-are-entries [] e = refl
 runs-are-entries (run ∷ runs) e =
-    let p = else-none-left (keyRefusal (keyOfRun run)) (keysRefusal runs) e in
+    let p = else-zero (keyRefusal (keyOfRun run)) (keysRefusal runs) e in
     rw (key-is-entry (keyOfRun run) (p .0)) (runs-are-entries runs (p .1))
 
 too-many : (list memory : List ℕ) → allOf isEntry list ≡ true → length list ≤ maxEntries → length memory < length list → placesRefusal list memory ≡ 12

@@ -5,9 +5,9 @@ use Prim.Native.Nat.{ℕ, zero, suc, _-_, _≤_}
 use native.Mathlib.Omega.{arith}
 use lib.ListN.{length, take, drop, replicate, length-append}
 use lib.Seq.{take-at}
-use Rattle.area.specs.Area.{pairRefusal, pairPlacesRefusal, unionEntries, commonEntries, differenceEntries, unionOf, commonOf, differenceOf}
+use Rattle.area.specs.Area.{pairRefusal, pairPlacesRefusal, unionEntries, commonEntries, differenceEntries}
 use Rattle.builds.specs.Build.{answerOf}
-use Rattle.errors.specs.Answer.{Answer, answer, Lent, lent, short, written, _else_}
+use Rattle.errors.specs.Answer.{Answer, answer, Lent, lent, short, _else_}
 use Rattle.errors.specs.Cases.{countCase, left}
 use Rattle.errors.specs.declared.Count.{Count}
 use Rattle.form.specs.declared.Verb.{Verb}
@@ -52,6 +52,14 @@ same-given : (refusal : ℕ) (r s : Lent ℕ) (n : ℕ) (items : List ℕ) → G
 same-given refusal r s n items a b =
     ap₂ (λ (k : ℕ) (l : List ℕ). answer (refusal else k) [] l) (a .number ∙ sym (b .number)) (a .front ∙ sym (b .front))
 
+-- an accepted call gives the entries
+pub accepted-items : (r : Lent ℕ) (n : ℕ) (items : List ℕ) → Gives r n items → r .number ≡ 0 → answerOf r ≡ items
+accepted-items r n items a e = a .front ∙ go n (sym (a .number) ∙ e)
+  where
+    go : (n : ℕ) → n ≡ 0 → answer n [] items .value ≡ items
+    go zero e = refl
+    go (suc n) e = absurd (omega (arith, e))
+
 pub given-items : (r : Lent ℕ) (n : ℕ) (items : List ℕ) → Gives r n items → given 0 r ≡ answer n [] items
 given-items r n items a = ap₂ (λ (k : ℕ) (l : List ℕ). answer k [] l) (a .number) (a .front) ∙ twice n items
   where
@@ -78,12 +86,12 @@ module _ (list memory : List ℕ) where
   pub simplify-gives : Gives (simplifyOf list 0 memory) (placesRefusal list memory) (entriesInOrder (simplified maxZoom 0 (listed list)))
   simplify-gives = listed-gives (placesRefusal list memory) list _ memory
 
-abbrev operatedRefusal : Verb → List ℕ → List ℕ → List ℕ → ℕ
+abbrev pub operatedRefusal : Verb → List ℕ → List ℕ → List ℕ → ℕ
 operatedRefusal Plus a b memory = pairPlacesRefusal a b memory
 operatedRefusal Both a b memory = pairPlacesRefusal a b memory
 operatedRefusal Minus a b memory = pairRefusal a b else short (differenceEntries a b) memory
 
-abbrev operatedEntries : Verb → List ℕ → List ℕ → List ℕ
+abbrev pub operatedEntries : Verb → List ℕ → List ℕ → List ℕ
 operatedEntries Plus a b = unionEntries a b
 operatedEntries Both a b = commonEntries a b
 operatedEntries Minus a b = differenceEntries a b

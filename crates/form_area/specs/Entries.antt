@@ -1,14 +1,13 @@
 -- The keys of `tiles`, one after the other: refused by the first bad one, else entries in the order of the keys.
 use mathlib.Core.Path.{_≡_, refl, sym, ap, subst, _∙_}
-use mathlib.Core.Bool.{Bool, true, false, cond, not}
-use mathlib.Core.List.{List, [], _∷_, _++_, map, map-append, append-assoc, append-nil}
+use mathlib.Core.Bool.{true}
+use mathlib.Core.List.{List, [], _∷_, _++_, map-append, append-assoc, append-nil}
 use Prim.Native.Nat.{ℕ, zero, suc, _+_, _-_, _≤_, _<_}
 use native.Mathlib.Numerals.{add-one}
 use native.Mathlib.Omega.{arith}
-use lib.ListN.{length, take, drop, getD, set, length-append, length-drop, length-map, length-set}
+use lib.ListN.{length, take, drop, set, length-append, length-drop, length-set}
 use lib.Seq.{take-suc-set, drop-drop}
 use Rattle.errors.specs.Answer.{numberOf, _else_}
-use Rattle.errors.specs.Cases.{countCase}
 use Rattle.errors.specs.declared.Check.{Check}
 use Rattle.errors.specs.declared.Check.the-variants as check
 use Rattle.errors.specs.declared.Count.{Count}
@@ -18,7 +17,7 @@ use Rattle.errors.specs.Laws.{stands, answer-found}
 use Rattle.bits.specs.Tests.{and-parts}
 use Rattle.form.specs.Form.{closing, spaced, isRun, allRuns}
 use Rattle.form.specs.Front.{KeysFirst}
-use Rattle.form.specs.Keys.{KeyFirst, keys-first-key, first-key, key-first, one-key, only-closing}
+use Rattle.form.specs.Keys.{keys-first-key, first-key, key-first, one-key, only-closing}
 use Rattle.form.specs.Once.{one-keys}
 use Rattle.form.specs.Words.{keyLength}
 use Rattle.form_area.specs.Area.{keyOfRun, keysRefusal, keyEntry, runEntries}

@@ -1,4 +1,4 @@
-// Prints the plates of document 01 and the Bing page's examples of parents, each worked out by the library.
+// Prints the plates of document 01 that are proved, each worked out by the library. `vectors` checks the others.
 use errors::Count;
 use errors::U32Answer;
 use errors::U64Answer;
@@ -14,14 +14,10 @@ fn main() {
     key_and_numbers(b"root", 0, 0, 0);
     ancestors();
     beside();
-    family(b"2");
-    family(b"13");
     kept();
     empty();
     all_of_zoom(16);
     zooms();
-    key_lengths();
-    list_lengths();
 }
 
 fn key_and_numbers(name: &[u8], x: u32, y: u32, z: u8) {
@@ -53,21 +49,6 @@ fn beside() {
     say(b"\nneighbours of (3,0,2):");
     let m = written(neighbors::neighbors(3, 0, 2, &mut list));
     say_entries(&list, m);
-    say(b"\n");
-}
-
-// The keys of a tile's children, from the tile's key.
-fn family(key: &[u8]) {
-    say(key);
-    say(b" is the parent of");
-    let mut list = [0u64; 4];
-    if let TileAnswer::Found(t) = quadkey::quadkey2xyz(key) {
-        children::children1_zorder(t.x, t.y, t.z, &mut list);
-    }
-    say_entry_key(list[0]);
-    say_entry_key(list[1]);
-    say_entry_key(list[2]);
-    say_entry_key(list[3]);
     say(b"\n");
 }
 
@@ -116,26 +97,6 @@ fn zooms() {
     say_bytes(&lows, k);
     say(b" to");
     say_bytes(&highs, k);
-    say(b"\n");
-}
-
-fn key_lengths() {
-    let key = [b'0'; 30];
-    say(b"29 digits: ");
-    say_tile(quadkey::quadkey2xyz(&key[..29]));
-    say(b"; 30: ");
-    say_tile(quadkey::quadkey2xyz(&key));
-    say(b"\n");
-}
-
-// Lists of nothing but the root.
-fn list_lengths() {
-    let tiles = [0u64; 65537];
-    let mut list = [0u64; 65537];
-    say(b"65536 entries settle to ");
-    say_count(merge::simplify(&tiles[..65536], OptionU8::None, &mut list));
-    say(b"; 65537: ");
-    say_count(merge::simplify(&tiles, OptionU8::None, &mut list));
     say(b"\n");
 }
 

@@ -101,7 +101,7 @@ module _ (m : ℕ) (S : Tile → Bool) where
       })
 
 -- a set that no pass changes
-passes-same : (n m : ℕ) (S : Tile → Bool) → ((t : Tile) → joins m S t ≡ false) → passes n m S ≡ S
+pub passes-same : (n m : ℕ) (S : Tile → Bool) → ((t : Tile) → joins m S t ≡ false) → passes n m S ≡ S
 unfolding passes
 passes-same zero m S none = refl
 passes-same (suc n) m S none = ap (merged m) (passes-same n m S none) ∙ fun-ext (merged-same m S none)

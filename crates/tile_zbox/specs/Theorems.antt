@@ -265,8 +265,3 @@ no-box-is-0 = boxes-length-is-the-sum [] none (omega arith)
   where
     none : Fine []
     none = record { shallow = any-none deep; edges = any-none wrongEdges }
-
--- "Box of all zoom 16: 4294967296"
-pub box-of-all-zoom-16 : lengthOf (boxAt 16 0 65535 0 65535) ≡ record { number = 0; value = 4294967296 }
-unfolding boxRefusal wrongEdges boxLength maxZoom
-box-of-all-zoom-16 = refl

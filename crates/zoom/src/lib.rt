@@ -133,6 +133,13 @@ impl ZoomSet {
         ZoomSet(zset)
     }
 
+    // The number that `new` makes the set of.
+    pub fn number(self) -> u32
+        ensures { λ r. ⌜ r ≡ self .0 ⌝ }
+    {
+        self.0
+    }
+
     pub fn from_zooms(zooms: &[u8]) -> ZoomSetAnswer
         ensures { λ r. ⌜ zoomSetCase r ≡ zvecSet (now (zooms .entry)) ⌝ }
     {

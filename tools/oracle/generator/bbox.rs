@@ -1,15 +1,13 @@
 //! Degree boxes. A number is written as its place in the table.
 use utiles_core::{BBox, LngLat};
 
+use crate::places::{Places, any, near};
 use crate::record::{List, counted};
 use crate::sample::Random;
 
 const TABLE: [f64; 12] =
     [f64::NAN, f64::NEG_INFINITY, -180.0, -90.0, -10.5, -0.0, 0.0, 10.5, 90.0, 179.5, 180.0, f64::INFINITY];
 const CALLS: usize = 600;
-
-// West, south, east, north.
-type Places = [u64; 4];
 
 pub fn write(list: &mut List) {
     let mut random = Random::new();
@@ -66,32 +64,4 @@ fn split(area: Places) -> Vec<u64> {
     let parts = made(area).bboxes();
     let places = parts.iter().flat_map(|part| [part.west, part.south, part.east, part.north].map(place));
     [vec![parts.len() as u64], places.collect()].concat()
-}
-
-// NaN, which makes most comparisons false, is rarer than the others.
-fn number(random: &mut Random) -> u64 {
-    if random.below(24) == 0 { 0 } else { 1 + random.below(11) }
-}
-
-// A box that holds something, or one that crosses the antimeridian, or, one time in four, any four numbers.
-fn any(random: &mut Random) -> Places {
-    let [a, b, c, d] = [(); 4].map(|()| number(random));
-    match random.below(4) {
-        0 => [a, c, b, d],
-        1 => [a.max(b), c.min(d), a.min(b), c.max(d)],
-        _ => [a.min(b), c.min(d), a.max(b), c.max(d)],
-    }
-}
-
-// A box that lies inside another one, or now and then sticks out of it by a place.
-fn near(random: &mut Random, [west, south, east, north]: Places) -> Places {
-    let mut moved = |from: u64, to: u64| {
-        let inwards = random.below(12) != 0;
-        match random.below(3) {
-            0 => from,
-            _ if (from < to) == inwards => (from + 1).min(11),
-            _ => from.saturating_sub(1),
-        }
-    };
-    [moved(west, east), moved(south, north), moved(east, west), moved(north, south)]
 }

@@ -4,6 +4,7 @@ use std::collections::HashSet;
 use utiles_core::merge as rust;
 use utiles_core::{Tile, from_id, to_id};
 
+use crate::lists::{ancestors, level, shuffled, under};
 use crate::paper::{self, DEEPEST};
 use crate::record::{List, counted};
 use crate::sample::Random;
@@ -53,16 +54,6 @@ fn in_order(set: HashSet<Tile>) -> Vec<u64> {
 
 fn id((x, y, z): (u32, u32, u8)) -> u64 {
     to_id(x, y, z)
-}
-
-// All descendants of a tile, `down` zooms below it.
-fn level((x, y, z): (u32, u32, u8), down: u8) -> Vec<u64> {
-    let side = 1 << down;
-    (0..side).flat_map(|i| (0..side).map(move |j| to_id(x * side + i, y * side + j, z + down))).collect()
-}
-
-fn ancestors((x, y, z): (u32, u32, u8)) -> Vec<u64> {
-    (1..=z).map(|up| to_id(x >> up, y >> up, z - up)).collect()
 }
 
 // Lists that are worth every minimum zoom: nothing, the root, the plate, chains, families in families, a parent beside its
@@ -115,25 +106,6 @@ fn lists(random: &mut Random) -> Vec<Vec<u64>> {
         }
     }
     lists.iter().map(|entries| shuffled(random, entries)).collect()
-}
-
-// A tile at most `depth` zooms below another.
-fn under(random: &mut Random, (x, y, z): (u32, u32, u8), depth: u8) -> u64 {
-    let down = random.below(u64::from(depth) + 1) as u8;
-    let (i, j) = (random.coordinate(down), random.coordinate(down));
-    to_id((x << down) + i, (y << down) + j, z + down)
-}
-
-// In another order, and one entry of four once more.
-fn shuffled(random: &mut Random, entries: &[u64]) -> Vec<u64> {
-    let mut list = entries.to_vec();
-    if !list.is_empty() {
-        list.extend(random.picks(entries, entries.len() / 4));
-    }
-    for i in (1..list.len()).rev() {
-        list.swap(i, random.below(i as u64 + 1) as usize);
-    }
-    list
 }
 
 // 0, one of the zooms that the list has or one beside it, and any other.

@@ -3,12 +3,14 @@ use crate::paper::DEEPEST;
 
 pub type Xyz = (u32, u32, u8);
 
+pub const SEED: u64 = 0x9E37_79B9_7F4A_7C15;
+
 /// xorshift64*: the same numbers on every run.
 pub struct Random(u64);
 
 impl Random {
     pub fn new() -> Self {
-        Self(0x9E37_79B9_7F4A_7C15)
+        Self(SEED)
     }
 
     pub fn next(&mut self) -> u64 {

@@ -6,7 +6,7 @@ use Rattle.form.specs.Form.{space, closing, Form}
 use Rattle.form.specs.Front.{KeysFirst, PairFirst}
 use Rattle.form.specs.Pairs.{no-left, no-space, no-right, no-closing, a-pair}
 use Rattle.form.specs.Parse.{tiles-end, pair-end as Parse·pair-end}
-use Rattle.form.specs.declared.End.the-variants.{At, Nowhere}
+use Rattle.form.specs.declared.End.the-variants.{At}
 use mathlib.Core.Path.{_≡_, sym, ap, subst, _∙_}
 use native.Mathlib.Omega.{arith}
 use borrow.Author.Needs.{needs}

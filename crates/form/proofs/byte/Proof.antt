@@ -4,8 +4,6 @@ use lib.ListN.{List·getD-eq-default}
 use borrow.Author.Needs.{needs}
 use Rattle.form.proofs.byte.Statement.{statement}
 use Rattle.form.proofs.byte.Tie as tie
-use Rattle.form.proofs.byte.Reads as reads
-use Rattle.form.proofs.byte.Lts as lts
 
 shared-slice-read-result : tie.Need-shared-slice-read-result
 shared-slice-read-result c = search needs

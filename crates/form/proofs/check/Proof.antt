@@ -5,10 +5,6 @@ use Rattle.form.specs.Reading.{line-too-long, line-too-deep, line-in-lim
 use borrow.Author.Needs.{needs}
 use Rattle.form.proofs.check.Statement.{statement}
 use Rattle.form.proofs.check.Tie as tie
-use Rattle.form.proofs.check.Reads as reads
-use Rattle.form.proofs.check.Lts as lts
-use Rattle.form.proofs.too_deep.Reads as too-deep-reads
-use Rattle.form.proofs.whole.Reads as whole-reads
 
 returns : tie.Need-returns
 unfolding maxLine

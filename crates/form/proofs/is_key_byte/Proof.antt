@@ -1,9 +1,7 @@
 -- `is_key_byte` meets its contract, byte by byte.
-use borrow.Author.Tests.{ne-eqb, eq-eqb}
+use borrow.Author.Tests.{ne-eqb}
 use Rattle.form.proofs.is_key_byte.Statement.{statement}
 use Rattle.form.proofs.is_key_byte.Tie as tie
-use Rattle.form.proofs.is_key_byte.Reads as reads
-use Rattle.form.proofs.is_key_byte.Lts as lts
 
 returns : tie.Need-returns
 returns c = rw (c .if1 .taken)

@@ -1,5 +1,5 @@
 -- `key_length` meets its contract: a space, then the run behind it.
-use mathlib.Core.Path.{_≡_, refl, sym, ap, _∙_}
+use mathlib.Core.Path.{sym, _∙_}
 use native.Mathlib.Omega.{arith}
 use Prim.Native.Nat.{_+_}
 use lib.ListN.{drop, length-drop}
@@ -10,10 +10,6 @@ use Rattle.form.specs.Steps.{key-not-there, no-key-there, some-key-there
 use borrow.Author.Needs.{needs}
 use Rattle.form.proofs.key_length.Statement.{statement}
 use Rattle.form.proofs.key_length.Tie as tie
-use Rattle.form.proofs.key_length.Reads as reads
-use Rattle.form.proofs.key_length.Lts as lts
-use Rattle.form.proofs.byte.Reads as byte-reads
-use Rattle.form.proofs.run_length.Reads as run-length-reads
 
 byte-requires : tie.Need-byte-requires
 byte-requires c κs = search needs

@@ -1,16 +1,13 @@
 -- `keys_end` meets its contract: keys are passed one by one.
 use Rattle.form.specs.Keys.{passed-some}
-use mathlib.Core.Path.{_≡_, refl, sym, ap, _∙_}
+use mathlib.Core.Path.{sym, _∙_}
 use Prim.Native.Nat.{_-_}
 use native.Mathlib.Omega.{arith}
 use lib.ListN.{length}
 use borrow.Author.Needs.{needs}
-use Rattle.form.specs.Keys.{Passed, passed-none, passed-key, keys-closed, keys-broken, keys-past}
+use Rattle.form.specs.Keys.{Passed, passed-none, keys-closed, keys-broken, keys-past}
 use Rattle.form.proofs.keys_end.Statement.{statement}
 use Rattle.form.proofs.keys_end.Tie as tie
-use Rattle.form.proofs.keys_end.Reads as reads
-use Rattle.form.proofs.keys_end.Lts as lts
-use Rattle.form.proofs.key_length.Reads as key-length-reads
 
 abbrev Inv-loop : tie.InvT-loop
 Inv-loop bytes at₀ at = Passed at bytes

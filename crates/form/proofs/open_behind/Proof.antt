@@ -5,8 +5,6 @@ use Rattle.constants.specs.Limits.{maxOpen}
 use borrow.Author.Needs.{needs}
 use Rattle.form.proofs.open_behind.Statement.{statement}
 use Rattle.form.proofs.open_behind.Tie as tie
-use Rattle.form.proofs.open_behind.Reads as reads
-use Rattle.form.proofs.open_behind.Lts as lts
 
 add-result : tie.Need-add-result
 unfolding maxOpen

@@ -2,8 +2,6 @@
 use borrow.Author.Needs.{needs}
 use Rattle.form.proofs.pair_front.Statement.{statement}
 use Rattle.form.proofs.pair_front.Tie as tie
-use Rattle.form.proofs.pair_front.Reads as reads
-use Rattle.form.proofs.pair_front.Lts as lts
 
 enum-told : tie.Need-enum-told
 enum-told c = search needs

@@ -1,5 +1,5 @@
 -- `run_length` meets its contract: the run from the first place on is what was passed and the run from i on.
-use mathlib.Core.Path.{_≡_, refl, sym, ap, _∙_}
+use mathlib.Core.Path.{_≡_, sym, _∙_}
 use Prim.Native.Nat.{_+_, _-_, _≤_}
 use native.Mathlib.Omega.{arith}
 use lib.ListN.{length, drop}
@@ -9,9 +9,6 @@ use Rattle.form.specs.Words.{runLength}
 use Rattle.form.specs.Steps.{run-more, run-stops, run-past}
 use Rattle.form.proofs.run_length.Statement.{statement}
 use Rattle.form.proofs.run_length.Tie as tie
-use Rattle.form.proofs.run_length.Reads as reads
-use Rattle.form.proofs.run_length.Lts as lts
-use Rattle.form.proofs.is_key_byte.Reads as is-key-byte-reads
 
 abbrev Inv-loop : tie.InvT-loop
 Inv-loop bytes from i₀ i = (from ≤ i) × (runLength (drop from bytes) ≡ i - from + runLength (drop i bytes))

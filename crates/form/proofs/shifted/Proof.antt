@@ -5,8 +5,6 @@ use Rattle.form.specs.Ends.{ShiftFits}
 use borrow.Author.Needs.{needs}
 use Rattle.form.proofs.shifted.Statement.{statement}
 use Rattle.form.proofs.shifted.Tie as tie
-use Rattle.form.proofs.shifted.Reads as reads
-use Rattle.form.proofs.shifted.Lts as lts
 
 enum-known-end : tie.Need-enum-known-end
 enum-known-end c = search needs

@@ -1,6 +1,6 @@
 -- `starts_with` meets its contract: the bytes start with all of the front just where, from i on, they start with the rest of it.
-use mathlib.Core.Path.{_≡_, refl, sym, ap, _∙_}
-use Prim.Native.Nat.{_+_, _-_, _≤_}
+use mathlib.Core.Path.{_≡_, refl, sym, _∙_}
+use Prim.Native.Nat.{_-_, _≤_}
 use native.Mathlib.Omega.{arith}
 use lib.ListN.{length, drop}
 use borrow.Author.Needs.{needs}
@@ -8,8 +8,6 @@ use Rattle.form.specs.Words.{startsWith}
 use Rattle.form.specs.Steps.{starts-short, starts-more, starts-not, starts-all}
 use Rattle.form.proofs.starts_with.Statement.{statement}
 use Rattle.form.proofs.starts_with.Tie as tie
-use Rattle.form.proofs.starts_with.Reads as reads
-use Rattle.form.proofs.starts_with.Lts as lts
 
 abbrev Inv-loop : tie.InvT-loop
 Inv-loop front bytes i₀ i = (i ≤ length front) × (startsWith front bytes ≡ startsWith (drop i front) (drop i bytes))

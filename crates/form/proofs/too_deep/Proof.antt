@@ -9,9 +9,6 @@ use Rattle.form.specs.Form.{tooDeep}
 use Rattle.form.specs.Steps.{deep-here, deep-later, deep-nowhere}
 use Rattle.form.proofs.too_deep.Statement.{statement}
 use Rattle.form.proofs.too_deep.Tie as tie
-use Rattle.form.proofs.too_deep.Reads as reads
-use Rattle.form.proofs.too_deep.Lts as lts
-use Rattle.form.proofs.open_behind.Reads as open-behind-reads
 
 abbrev Inv-loop : tie.InvT-loop
 Inv-loop line depth₀ i₀ depth i = (i ≤ length line) × (depth ≤ maxOpen) × (tooDeep 0 line ≡ tooDeep depth (drop i line))

@@ -1,5 +1,5 @@
 -- `whole` meets its contract: a form that ends where the line does is its reading.
-use mathlib.Core.Path.{sym, subst, _∙_}
+use mathlib.Core.Path.{sym, subst}
 use native.Mathlib.Omega.{arith}
 use Rattle.form.specs.Ends.{FormEnds}
 use Rattle.form.specs.Reading.{whole-line, part-of-line, no-reading, whole-fine, whole-refused}
@@ -7,9 +7,6 @@ use Rattle.form.specs.declared.End.the-variants.{At}
 use borrow.Author.Needs.{needs}
 use Rattle.form.proofs.whole.Statement.{statement}
 use Rattle.form.proofs.whole.Tie as tie
-use Rattle.form.proofs.whole.Reads as reads
-use Rattle.form.proofs.whole.Lts as lts
-use Rattle.form.proofs.form_end.Reads as form-end-reads
 
 form-end-requires : tie.Need-form-end-requires
 form-end-requires c κs = search needs

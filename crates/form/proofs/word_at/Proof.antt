@@ -4,9 +4,6 @@ use Rattle.form.specs.Words.{wordAt}
 use borrow.Author.Needs.{needs}
 use Rattle.form.proofs.word_at.Statement.{statement}
 use Rattle.form.proofs.word_at.Tie as tie
-use Rattle.form.proofs.word_at.Reads as reads
-use Rattle.form.proofs.word_at.Lts as lts
-use Rattle.form.proofs.starts_with.Reads as starts-with-reads
 
 slice-aggregate-starts-with : tie.Need-slice-aggregate-starts-with
 slice-aggregate-starts-with c = search needs

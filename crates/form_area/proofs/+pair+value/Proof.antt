@@ -2,22 +2,21 @@
 use mathlib.Core.Path.{_≡_, sym, ap, subst, _∙_}
 use mathlib.Core.List.{List, []}
 use native.Mathlib.Omega.{arith}
-use lib.ListN.{length, take, drop, length-take, length-drop, length-replicate}
+use lib.ListN.{length, take, drop, length-drop, length-replicate}
 use lib.Seq.{length-take-le}
 use borrow.Author.Needs.{needs}
-use Rattle.constants.specs.Limits.{maxLine, formPlaces}
+use Rattle.constants.specs.Limits.{formPlaces}
 use Rattle.errors.specs.declared.Count.{Count}
 use Rattle.errors.specs.declared.Count.the-variants as count
 use Rattle.form.specs.Ends.{Opened, opened, front-within, rest-part}
 use Rattle.form.specs.Form.{Form}
 use Rattle.form.specs.Front.{PairFirst}
 use Rattle.form.specs.Words.{tilesFront, pairFront}
-use Rattle.form.specs.declared.Verb.{Verb}
 use Rattle.form.specs.declared.Word.the-variants as word
 use Rattle.form_area.specs.Area.{operated, formArea}
 use Rattle.form_area.specs.Areas.{left-refused-area, right-refused-area, operated-area}
 use Rattle.form_area.specs.Calls.{valued, Within, call-within, operated-gives}
-use Rattle.form_area.specs.Promised.{Spelled, PairSpelled, KeysSpelled, OfForm, OfPair, OfKeys, spelled-keys, form-of-keys, spelled-pair, form-of-pair, some-word, left-reads, right-reads, pair-room}
+use Rattle.form_area.specs.Promised.{PairSpelled, KeysSpelled, OfPair, OfKeys, spelled-keys, form-of-keys, spelled-pair, form-of-pair, some-word, left-reads, right-reads, pair-room}
 use Prim.Native.Nat.{ℕ, _+_, _-_, _*_, _≤_, _<_}
 use borrow.Fn.Kinds.{In}
 use borrow.Fn.PlainCycle.{Measures, is, falls, and}

@@ -2,27 +2,21 @@
 use mathlib.Core.Path.{_≡_, sym, ap, subst, _∙_}
 use mathlib.Core.List.{List}
 use Prim.Native.Nat.{ℕ, _≤_}
-use lib.ListN.{length, take, length-replicate}
+use lib.ListN.{length, length-replicate}
 use lib.Seq.{length-take-le}
 use Rattle.constants.specs.Limits.{maxLine, formPlaces}
 use Rattle.errors.specs.Answer.{Answer, written}
 use Rattle.errors.specs.Laws.{positive, check-fine, check-refused}
 use Rattle.errors.specs.Memory.{written-refused}
 use Rattle.errors.specs.declared.Count.{Count}
-use Rattle.errors.specs.declared.Count.the-variants as count
 use Rattle.form.specs.Form.{Form, Reads}
 use Rattle.form.specs.Reading.{lineRefusal, line-fine}
-use Rattle.form_area.specs.Area.{formArea, lineArea}
+use Rattle.form_area.specs.Area.{lineArea}
 use Rattle.form_area.specs.Calls.{valued, Within}
 use Rattle.form_area.specs.Lines.{line-area, line-refused}
 use borrow.Author.Needs.{needs}
 use Rattle.form_area.proofs.area.Statement.{statement}
 use Rattle.form_area.proofs.area.Tie as tie
-use Rattle.form_area.proofs.area.Reads as reads
-use Rattle.form_area.proofs.area.Lts as lts
-use Rattle.form.proofs.check.Reads as check-reads
-use Rattle.form_area.proofs.value.Reads as value-reads
-use Rattle.form_area.proofs.written.Reads as written-reads
 
 check-requires : tie.Need-check-requires
 check-requires c κs = search needs

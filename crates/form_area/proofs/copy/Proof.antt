@@ -1,17 +1,14 @@
 -- `copy` meets its contract: the front of the memory is filled place by place.
-use mathlib.Core.Path.{_≡_, refl, sym, ap, subst, _∙_}
-use mathlib.Core.List.{_++_}
+use mathlib.Core.Path.{_≡_, refl, _∙_}
 use Prim.Native.Nat.{ℕ, _-_, _≤_}
 use native.Mathlib.Numerals.{add-one}
 use native.Mathlib.Omega.{arith}
-use lib.ListN.{length, drop, length-set}
-use lib.Seq.{take-length, take-all}
+use lib.ListN.{length, length-set}
+use lib.Seq.{take-length}
 use borrow.Author.Needs.{needs}
 use Rattle.errors.specs.Memory.{front, front-more}
 use Rattle.form_area.proofs.copy.Statement.{statement}
 use Rattle.form_area.proofs.copy.Tie as tie
-use Rattle.form_area.proofs.copy.Reads as reads
-use Rattle.form_area.proofs.copy.Lts as lts
 
 abbrev Inv-loop : tie.InvT-loop
 Inv-loop list out₀ i₀ out i = (i ≤ length list) × (length out ≡ length out₀) × (length list ≤ length out₀) × (out ≡ front i list out₀)

@@ -1,5 +1,5 @@
 -- `enter` meets its contract: the keys are entered one by one, from the left.
-use mathlib.Core.Path.{_≡_, refl, sym, _∙_}
+use mathlib.Core.Path.{_≡_, refl, _∙_}
 use Prim.Native.Nat.{_+_, _-_, _<_}
 use native.Mathlib.Omega.{arith}
 use lib.ListN.{length}
@@ -8,10 +8,6 @@ use Rattle.form_area.specs.Entries.{Begun, none-entered, coming, coming-
 use Rattle.errors.specs.declared.Count.the-variants as count
 use Rattle.form_area.proofs.enter.Statement.{statement}
 use Rattle.form_area.proofs.enter.Tie as tie
-use Rattle.form_area.proofs.enter.Reads as reads
-use Rattle.form_area.proofs.enter.Lts as lts
-use Rattle.form.proofs.key_length.Reads as key-length-reads
-use Rattle.form_area.proofs.keep.Reads as keep-reads
 
 abbrev Inv-loop : tie.InvT-loop
 Inv-loop body entries₀ at₀ n₀ entries at n = Begun at n entries body × (length entries ≡ length entries₀)

@@ -4,8 +4,6 @@ use Rattle.form_area.specs.Areas.{no-dash, one-byte-dash}
 use borrow.Author.Needs.{needs}
 use Rattle.form_area.proofs.is_dash.Statement.{statement}
 use Rattle.form_area.proofs.is_dash.Tie as tie
-use Rattle.form_area.proofs.is_dash.Reads as reads
-use Rattle.form_area.proofs.is_dash.Lts as lts
 
 returns : tie.Need-returns
 returns c = sym (no-dash (c .before .args .run .now) (c .if1 .taken))

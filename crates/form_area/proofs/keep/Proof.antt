@@ -1,5 +1,5 @@
 -- `keep` meets its contract: a bad key is refused, and the entry of another goes to its place.
-use mathlib.Core.Path.{_≡_, refl, sym, ap, subst, _∙_}
+use mathlib.Core.Path.{sym, ap, _∙_}
 use Prim.Native.Nat.{ℕ}
 use lib.ListN.{set}
 use lib.Seq.{set-out}
@@ -11,10 +11,6 @@ use Rattle.tile.specs.OnMap.{noTile, tileCase}
 use borrow.Author.Needs.{needs}
 use Rattle.form_area.proofs.keep.Statement.{statement}
 use Rattle.form_area.proofs.keep.Tie as tie
-use Rattle.form_area.proofs.keep.Reads as reads
-use Rattle.form_area.proofs.keep.Lts as lts
-use Rattle.form_area.proofs.tile_of.Reads as tile-of-reads
-use Rattle.ids.proofs.entry.Reads as entry-reads
 
 tile-of-requires : tie.Need-tile-of-requires
 tile-of-requires c κs = search needs

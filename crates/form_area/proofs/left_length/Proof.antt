@@ -1,18 +1,10 @@
 -- `left_length` meets its contract: the form at the front of a pair is its left one.
 use Rattle.form_area.specs.Areas.{left-length, left-there}
-use mathlib.Core.Path.{_≡_, refl, sym, ap, subst, _∙_}
-use native.Mathlib.Omega.{arith}
-use mathlib.Core.List.{[], _∷_, _++_}
+use mathlib.Core.Path.{subst}
 use Rattle.form.specs.Ends.{FormEnds}
-use Rattle.form.specs.Form.{space, closing, text}
-use Rattle.form.specs.Once.{one-form}
-use Rattle.form.specs.declared.End.the-variants.{At}
 use borrow.Author.Needs.{needs}
 use Rattle.form_area.proofs.left_length.Statement.{statement}
 use Rattle.form_area.proofs.left_length.Tie as tie
-use Rattle.form_area.proofs.left_length.Reads as reads
-use Rattle.form_area.proofs.left_length.Lts as lts
-use Rattle.form.proofs.form_end.Reads as form-end-reads
 
 form-end-requires : tie.Need-form-end-requires
 form-end-requires c κs = search needs

@@ -1,15 +1,10 @@
 -- `operate` meets its contract: the three operations by their words.
 use Rattle.form.specs.declared.Verb.{Verb}
 use Rattle.form_area.specs.Area.{operated}
-use mathlib.Core.Path.{_≡_, refl, sym, ap, subst, _∙_}
+use mathlib.Core.Path.{sym, ap, _∙_}
 use borrow.Author.Needs.{needs}
 use Rattle.form_area.proofs.operate.Statement.{statement}
 use Rattle.form_area.proofs.operate.Tie as tie
-use Rattle.form_area.proofs.operate.Reads as reads
-use Rattle.form_area.proofs.operate.Lts as lts
-use Rattle.area.proofs.common_part.Reads as common-part-reads
-use Rattle.area.proofs.difference.Reads as difference-reads
-use Rattle.area.proofs.union.Reads as union-reads
 
 enum-told : tie.Need-enum-told
 enum-told c = search needs

@@ -1,12 +1,8 @@
 -- `tile_of` meets its contract.
-use mathlib.Core.Path.{_≡_, refl, sym, ap, subst, _∙_}
+use mathlib.Core.Path.{sym, _∙_}
 use borrow.Author.Needs.{needs}
 use Rattle.form_area.proofs.tile_of.Statement.{statement}
 use Rattle.form_area.proofs.tile_of.Tie as tie
-use Rattle.form_area.proofs.tile_of.Reads as reads
-use Rattle.form_area.proofs.tile_of.Lts as lts
-use Rattle.form_area.proofs.is_dash.Reads as is-dash-reads
-use Rattle.quadkey.proofs.quadkey2xyz.Reads as quadkey2xyz-reads
 
 is-dash-requires : tie.Need-is-dash-requires
 is-dash-requires c κs = search needs

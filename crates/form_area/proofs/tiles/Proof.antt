@@ -1,5 +1,5 @@
 -- `tiles` meets its contract: the first bad key, then more keys than places, then the settled list.
-use mathlib.Core.Path.{_≡_, refl, sym, ap, subst, _∙_}
+use mathlib.Core.Path.{sym, ap, subst, _∙_}
 use mathlib.Core.List.{List}
 use Prim.Native.Nat.{ℕ, _≤_}
 use native.Mathlib.Omega.{arith}
@@ -15,10 +15,6 @@ use Rattle.merge.specs.Merge.{simplifyOf}
 use borrow.Author.Needs.{needs}
 use Rattle.form_area.proofs.tiles.Statement.{statement}
 use Rattle.form_area.proofs.tiles.Tie as tie
-use Rattle.form_area.proofs.tiles.Reads as reads
-use Rattle.form_area.proofs.tiles.Lts as lts
-use Rattle.form_area.proofs.enter.Reads as enter-reads
-use Rattle.merge.proofs.simplify.Reads as simplify-reads
 
 slice-aggregate-enter : tie.Need-slice-aggregate-enter
 slice-aggregate-enter c = search needs

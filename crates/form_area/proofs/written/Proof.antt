@@ -4,9 +4,6 @@ use Rattle.errors.specs.Memory.{written-short, written-done}
 use borrow.Author.Needs.{needs}
 use Rattle.form_area.proofs.written.Statement.{statement}
 use Rattle.form_area.proofs.written.Tie as tie
-use Rattle.form_area.proofs.written.Reads as reads
-use Rattle.form_area.proofs.written.Lts as lts
-use Rattle.form_area.proofs.copy.Reads as copy-reads
 
 returns : tie.Need-returns
 returns c = written-short (c .before .before .before .args .list .now) (c .before .before .before .args .out .now) refl (c .if1 .taken)

@@ -1,0 +1,17 @@
+//! The relation is of any two numbers and is never refused.
+use utiles_core::sibling_relationship::SiblingRelationship;
+
+use crate::inputs;
+use crate::memory::value;
+use crate::sample::Random;
+use crate::tally::Tally;
+
+unsafe extern "C" {
+    safe fn nori_sibling_relationship(x: u32, y: u32, relation: &mut u8) -> u8;
+}
+
+pub fn compare(tally: &mut Tally, random: &mut Random) {
+    let (x, y) = (inputs::word(random), inputs::word(random));
+    let ours = value(9, |relation| nori_sibling_relationship(x, y, relation));
+    tally.call("from", (x, y), ours, || (0, SiblingRelationship::from((x, y)) as u8));
+}
