@@ -11,7 +11,7 @@ ghost use Rattle.exports.specs.Exported.{answered, asByte, given};
 ghost use Rattle.tile.specs.OnMap.{tileAt};
 ghost use Rattle.tile_zbox.specs.Around.{fromTilesOf};
 ghost use Rattle.tile_zbox.specs.Box.{boxAt, boxCase, containsOf, dimensionsOf, dxOf, dxdyOf, dyOf, extentAt, extentCase, flipOf, fromTileOf, lengthOf, newOf, zoomDepthOf, zoomInOf};
-ghost use Rattle.tile_zbox.specs.Boxes.{boxesFlipOf, boxesLengthOf};
+ghost use Rattle.tile_zbox.specs.Boxes.{boxesFlipOf, numbersLengthOf};
 ghost use Rattle.tile_zbox.specs.Cursor.{cursorAt, nextCase, nextOf};
 
 #[no_mangle]
@@ -372,7 +372,7 @@ pub extern "C" fn nori_zbox_next(
 
 #[no_mangle]
 pub extern "C" fn nori_zboxes_length(boxes: &[u32], length: &mut u64) -> u8
-    ensures { λ r. ⌜ answered r (now (length .exit)) ≡ boxesLengthOf (now (boxes .entry)) ⌝ }
+    ensures { λ r. ⌜ answered r (now (length .exit)) ≡ numbersLengthOf (now (boxes .entry)) ⌝ }
 {
     give::u64_number(tile_zbox::boxes_length(boxes), length)
 }

@@ -8,3 +8,4 @@ pub mod Keys
 pub mod Parse
 pub mod Reading
 pub mod Steps
+pub mod Theorems

@@ -16,7 +16,7 @@ use Rattle.ids.specs.Entry.{entryTile, accepted-entry}
 use Rattle.tile.specs.OnMap.{OnMap, tileAt, on-map-accepted}
 use Rattle.tile.specs.declared.Tile.{Tile}
 use Rattle.tile_zbox.specs.Around.{ofZoom, firstZoom, listRefusal, least, greatest, columnOf, rowOf, boxAround}
-use Rattle.tile_zbox.specs.Box.{IsBox, boxAt, wrongEdges, boxRefusal, inBox, containsOf, flipRow, flipped, flipOf, zoomedIn, zoomedBy, zoomInOf, zoomDepthOf, boxLength, lengthOf}
+use Rattle.tile_zbox.specs.Box.{IsBox, wrongEdges, boxRefusal, inBox, containsOf, flipRow, flipped, flipOf, zoomedIn, zoomedBy, zoomInOf, zoomDepthOf, boxLength}
 use Rattle.tile_zbox.specs.Boxes.{boxesFrom, boxesOf, deep, refusalOver, sumLengths, boxesLengthOf, numbersLengthOf, numbersOf}
 use Rattle.tile_zbox.specs.Cursor.{cursorAt, kthTile, ended, nextOf}
 use Rattle.tile_zbox.specs.Laws.{box-accepted, accepted-box, scaled-below}

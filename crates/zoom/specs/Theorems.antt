@@ -8,7 +8,6 @@ use native.Mathlib.Omega.{arith}
 use lib.Dec.{eqb}
 use lib.ListN.{length, getD}
 use lib.Bits.{bitAnd}
-use Rattle.constants.specs.Limits.{maxEntries}
 use Rattle.zoom.specs.AsRust.{lowest, highest, mirror, zooms-as-rust, turned-zooms, set-as-rust, set-rev-as-rust, range-as-rust, runs-as-rust}
 use Rattle.zoom.specs.Bits.{hasBit, those, setOf, between}
 use Rattle.zoom.specs.Cover.{fromTo, spread, runs-cover}
@@ -16,7 +15,7 @@ use Rattle.zoom.specs.Laws.{set-of-one, set-of-span, set-same, bit-and}
 use Rattle.zoom.specs.Listing.{those-rising, set-back, list-back, rev-lower}
 use Rattle.zoom.specs.Rust.{zset2zvec, zset2zvecRev, zvec2zset, zvec2zsetRev, zoomRanges}
 use Rattle.zoom.specs.Runs.{open-run, run-count}
-use Rattle.zoom.specs.Zooms.{lastZoom, turnBit, zoomsOf, zoomsOfRev, listed, anyDeeper, setOfZooms, setOfZoomsRev, zvecSet, firstRun, lastRun, inRun, runStarts, runEnds, runLows, runHighs}
+use Rattle.zoom.specs.Zooms.{lastZoom, turnBit, zoomsOf, zoomsOfRev, listed, anyDeeper, setOfZooms, setOfZoomsRev, inRun, runStarts, runEnds, runLows, runHighs}
 
 -- ---- there and back
 
@@ -105,11 +104,3 @@ runs-start-and-end zset n = open-run zset n
 
 pub as-many-lows-as-highs : (zset : ℕ) → length (runLows zset) ≡ length (runHighs zset)
 as-many-lows-as-highs zset = run-count zset
-
--- ---- the plates of document 01
-
-pub plates : (zvecSet (0 ∷ 5 ∷ []) ≡ record { number = 0; value = 33 })
-    × ((zoomsOf (2 ^ 31 + 2 ^ 30) ≡ 0 ∷ [])
-    × ((runLows (setOfZooms (0 ∷ 1 ∷ 2 ∷ 4 ∷ [])) ≡ 1 ∷ 4 ∷ []) × (runHighs (setOfZooms (0 ∷ 1 ∷ 2 ∷ 4 ∷ [])) ≡ 2 ∷ 4 ∷ [])))
-unfolding hasBit those setOf listed anyDeeper maxEntries firstRun lastRun inRun runStarts runEnds
-plates = (refl, (refl, (refl, refl)))
