@@ -144,3 +144,26 @@ fn parent(t: Tally, key: &[u8], says: &[u8]) -> Tally {
     };
     tally::told(t, says, gives)
 }
+
+// "the quadkey of any tile starts with the quadkey of its parent tile": as parts of the key itself.
+pub fn leading_parts(before: Tally) -> Tally {
+    let mut t = before;
+    tally::asked(b"first 2 digits of 130, the key of its parent");
+    t = tally::told(
+        t,
+        b"13",
+        text::put(text::none(), quadkey::ancestor_key(b"130", 2)),
+    );
+    tally::asked(b"what 130 and 133 share, the key of their parent");
+    t = tally::told(
+        t,
+        b"13",
+        text::put(text::none(), quadkey::shared_key(b"130", b"133")),
+    );
+    tally::asked(b"what 20 and 21 share, the key of their parent");
+    tally::told(
+        t,
+        b"2",
+        text::put(text::none(), quadkey::shared_key(b"20", b"21")),
+    )
+}

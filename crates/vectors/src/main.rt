@@ -13,6 +13,7 @@ fn main() {
     t = bing::tile_3_5(t);
     t = bing::children_of_2(t);
     t = bing::children_of_13(t);
+    t = bing::leading_parts(t);
     t = pictures::levels_1_and_2(t);
     t = pictures::level_3(t);
     t = slippy::zoom_levels(t);
