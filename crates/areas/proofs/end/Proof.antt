@@ -1,0 +1,69 @@
+-- `end` is safe: the answer stands at the front of the memory.
+use mathlib.Core.Path.{_≡_, sym, subst}
+use Prim.Native.Nat.{ℕ, _≤_}
+use mathlib.Core.List.{[]}
+use lib.ListN.{length, take}
+use lib.Seq.{length-take-le}
+use Rattle.errors.specs.declared.Count.{Count}
+use Rattle.errors.specs.declared.Count.the-variants.{Counted}
+use Rattle.errors.specs.Answer.{written}
+use Rattle.errors.specs.Cases.{left}
+use Rattle.form_stream.specs.Feeding.{written-within}
+use Rattle.form_stream.specs.Stream.{said}
+use borrow.Author.Needs.{needs}
+use Rattle.areas.proofs.end.Statement.{statement}
+use Rattle.areas.proofs.end.Tie as tie
+
+finish-requires : tie.Need-finish-requires
+finish-requires c κs = search needs
+
+enum-known-n : tie.Need-enum-known-n
+enum-known-n c = search needs
+
+within : {n : ℕ} (c : tie.After-finish) → c .finish .result ≡ Counted n → n ≤ length (c .finish .last .1 .1 .0)
+within c e =
+    let a = c .before .before .before .args in
+    let last = said (take (a .len) (a .line .now)) [] in
+    written-within last (a .out .now) (c .finish .last .1 .1 .0) _
+    (subst (λ (r : Count). left r (c .finish .last .1 .1 .0) ≡ written 0 last (a .out .now)) e (c .finish .ensures))
+
+slice-reshare-prefix-write-all : tie.Need-slice-reshare-prefix-write-all
+slice-reshare-prefix-write-all c = within (c .before .before .before .before .before) (c .before .n .given .1)
+
+slice-aggregate-write-all : tie.Need-slice-aggregate-write-all
+slice-aggregate-write-all c =
+    let f = c .before .before .before .before .before .before in
+    sym (length-take-le _ (f .finish .last .1 .1 .0) (within f (c .before .before .n .given .1)))
+
+write-all-requires : tie.Need-write-all-requires
+write-all-requires c κs = search needs
+
+enum-told : tie.Need-enum-told
+enum-told c = search needs
+
+same-length : tie.Need-same-length
+same-length c = search needs
+
+returns : tie.Need-returns
+returns c = search needs
+
+same-length-2 : tie.Need-same-length-2
+same-length-2 c = search needs
+
+returns-2 : tie.Need-returns-2
+returns-2 c = search needs
+
+pub end-spec : {M : Type 1} → statement M
+end-spec =
+    tie.close
+    (tie.spec
+    finish-requires
+    enum-known-n
+    slice-reshare-prefix-write-all
+    slice-aggregate-write-all
+    write-all-requires
+    enum-told
+    same-length
+    returns
+    same-length-2
+    returns-2)

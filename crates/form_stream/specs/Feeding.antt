@@ -1,0 +1,267 @@
+-- What is said of the input stays the same while it is taken in, byte by byte and line by line.
+use mathlib.Core.Path.{_≡_, refl, sym, ap, _∙_}
+use mathlib.Core.Bool.{Bool, true, false}
+use mathlib.Core.List.{List, [], _∷_, _++_, append-assoc, append-nil}
+use Prim.Native.Nat.{ℕ, zero, suc, _+_, _-_, _≤_, _<_, min}
+use native.Mathlib.Decide.{decLe}
+use native.Mathlib.Numerals.{add-one}
+use native.Mathlib.Omega.{arith}
+use lib.Dec.{ltb}
+use lib.ListN.{length, take, drop, getD, set, length-append, length-drop, length-set, take-append-drop}
+use lib.Seq.{drop-cons, drop-append-le, set-at, take-suc-set, take-append-le, take-append-add, length-take-le, take-at, take-all, take-length}
+use borrow.Author.Tests.{ne-eqb}
+use Rattle.constants.specs.Limits.{maxLine}
+use Rattle.errors.specs.Answer.{Lent, written, lent, _when_}
+use Rattle.errors.specs.Cases.{left}
+use Rattle.errors.specs.Laws.{never-zero}
+use Rattle.errors.specs.Memory.{written-short, written-done}
+use Rattle.errors.specs.declared.Count.{Count}
+use Rattle.errors.specs.declared.Count.the-variants.{Counted, Refused}
+use Rattle.errors.specs.declared.Refusal.{Refusal}
+use Rattle.errors.specs.declared.Refusal.the-variants.{Memory}
+use Rattle.form.specs.Form.{newline}
+use Rattle.form_area.specs.Area.{lineArea}
+use Rattle.form_line.specs.Line.{printed, lineWritten}
+use Rattle.form_line.specs.Longest.{longest, answer-short}
+use Rattle.form_line.specs.Stores.{withPart, written-counted, written-not}
+use Rattle.form_stream.specs.Long.{long-more}
+use Rattle.form_stream.specs.Stream.{reply, lastReply, last-replied, said}
+use Rattle.form_stream.specs.declared.Fed.{Fed}
+use Rattle.form_stream.specs.declared.Taken.{Taken}
+
+-- one byte of the line more: as many bytes are kept as matter
+pub record Keeps (b : ℕ) (line : List ℕ) (len : ℕ) (after : List ℕ) (r : ℕ) : Type 0 where
+  pub within : r ≤ length after
+  pub same : (rest : List ℕ) → said (take len line ++ (b ∷ [])) rest ≡ said (take r after) rest
+
+pub one-kept : (b : ℕ) (line : List ℕ) (len : ℕ) → len < length line → Keeps b line len (set line len b) (len + 1)
+one-kept b line len h = record {
+  within = omega (arith, length-set line len b);
+  same = λ rest. ap (λ (l : List ℕ). said l rest) (sym (rw (add-one len) (take-suc-set line len b h)));
+}
+
+pub none-kept : (b : ℕ) (line : List ℕ) (len : ℕ) → maxLine < length line → len ≤ length line → length line ≤ len → Keeps b line len line len
+none-kept b line len h k l = record {
+  within = k;
+  same = λ rest. long-more (take len line) b rest (omega (arith, length-take-le len line k));
+}
+
+-- the bytes of a chunk from a place on, up to the end of a line or of the chunk
+pub record Takes (chunk : List ℕ) (from : ℕ) (line : List ℕ) (len : ℕ) (after : List ℕ) (r : Taken) : Type 0 where
+  pub same : (rest : List ℕ) → said (take len line) (drop from chunk ++ rest) ≡ said (take (r .len) after) (drop (r .at) chunk ++ rest)
+  pub onward : from ≤ r .at
+  pub within : r .len ≤ length after
+
+pub record Ends (chunk : List ℕ) (at : ℕ) : Type 0 where
+  pub within : at ≤ length chunk
+  pub stops : at < length chunk → getD chunk at 0 ≡ newline
+
+byte-said : (line chunk : List ℕ) (i : ℕ) (rest : List ℕ) → i < length chunk → (getD chunk i 0 ≡ newline → ⊥)
+    → said line (drop i chunk ++ rest) ≡ said (line ++ (getD chunk i 0 ∷ [])) (drop (i + 1) chunk ++ rest)
+unfolding said
+byte-said line chunk i rest h n = rw (add-one i, drop-cons chunk i 0 h, ne-eqb _ _ n)
+
+line-said : (line chunk : List ℕ) (i : ℕ) (rest : List ℕ) → i < length chunk → getD chunk i 0 ≡ newline
+    → said line (drop i chunk ++ rest) ≡ reply line ++ said [] (drop (i + 1) chunk ++ rest)
+unfolding said
+line-said line chunk i rest h e = rw (add-one i, drop-cons chunk i 0 h, e)
+
+pub none-taken : (chunk : List ℕ) (from : ℕ) (line : List ℕ) (len : ℕ) → len ≤ length line → Takes chunk from line len line (record { at = from; len = len })
+none-taken chunk from line len h = record { same = λ rest. refl; onward = omega arith; within = h }
+
+pub byte-taken : (chunk : List ℕ) (from : ℕ) (line : List ℕ) (len i n m : ℕ) (between after : List ℕ) → Takes chunk from line len between (record { at = i; len = n })
+    → i < length chunk → (getD chunk i 0 ≡ newline → ⊥) → Keeps (getD chunk i 0) between n after m → Takes chunk from line len after (record { at = i + 1; len = m })
+byte-taken chunk from line len i n m between after t h d k = record {
+  same = λ rest. t .same rest ∙ (byte-said (take n between) chunk i rest h d ∙ k .same (drop (i + 1) chunk ++ rest));
+  onward = omega (arith, t .onward);
+  within = k .within;
+}
+
+-- the answer of a line and its newline at the front of the memory, or too little memory for them
+abbrev pub Replies : List ℕ → Count → List ℕ → Type 0
+Replies line (Counted n) after = (n ≤ length after) × (take n after ≡ reply line)
+Replies line (Refused why) after = length after < length (reply line)
+
+-- what the equation says of either
+pub replies : (line : List ℕ) (r : Count) (before after : List ℕ) → left r after ≡ written 0 (reply line) before → length after ≡ length before → Replies line r after
+replies line (Counted n) before after e h =
+    let w = written-counted (reply line) before after refl e in
+    (omega (arith, w .0, ap length (w .1) ∙ length-append (reply line) (drop (length (reply line)) before)), rw (w .1) (take-at (reply line) (drop (length (reply line)) before) n (sym (w .0))))
+replies line (Refused why) before after e h = omega (arith, h, written-not (reply line) before after refl why e)
+
+pub reply-short : (line : List ℕ) → length (reply line) ≤ longest + 1
+unfolding reply
+reply-short line = omega (arith, length-append (printed (lineArea line)) (newline ∷ []), answer-short line)
+
+-- how far a chunk has been taken in: what is said of all of it stands in the memory, as far as it is taken in, before what is said of the rest
+pub record Feeding (chunk line : List ℕ) (len i held filled : ℕ) (after out : List ℕ) : Type 0 where
+  pub same : (rest : List ℕ) → said (take len line) (chunk ++ rest) ≡ take filled out ++ said (take held after) (drop i chunk ++ rest)
+  pub place : i ≤ length chunk
+  pub kept : held ≤ length after
+  pub room : filled ≤ length out
+  pub first : i ≡ 0 → filled ≡ 0
+
+pub nothing-fed : (chunk line : List ℕ) (len : ℕ) (out : List ℕ) → len ≤ length line → Feeding chunk line len 0 len 0 line out
+nothing-fed chunk line len out h = record { same = λ rest. refl; place = omega arith; kept = h; room = omega arith; first = λ e. e }
+
+module _ (chunk line : List ℕ) (len i held filled : ℕ) (between out : List ℕ) (f : Feeding chunk line len i held filled between out) where
+  pub line-fed : (after : List ℕ) (r : Taken) → Takes chunk i between held after r → Ends chunk (r .at) → Feeding chunk line len (r .at) (r .len) filled after out
+  line-fed after r t e = record {
+    same = λ rest. f .same rest ∙ ap (λ (l : List ℕ). take filled out ++ l) (t .same rest);
+    place = e .within;
+    kept = t .within;
+    room = f .room;
+    first = λ z. f .first (omega (arith, z, t .onward));
+  }
+
+  take-more : (n : ℕ) (part : List ℕ) → n ≤ length part → take (filled + n) (withPart filled out part) ≡ take filled out ++ take n part
+  take-more n part h =
+      let l = length-take-le filled out (f .room) in
+      let e : filled + n ≡ length (take filled out) + n = omega (arith, l) in
+      rw (e, take-append-add (take filled out) (part ++ drop (length out - filled) (drop filled out)) n, take-append-le n part (drop (length out - filled) (drop filled out)) h)
+
+  pub back-length : (part : List ℕ) → length part ≡ length out - filled → length (withPart filled out part) ≡ length out
+  back-length part h =
+      let none : length (drop (length out - filled) (drop filled out)) ≡ 0 = omega (arith, length-drop (length out - filled) (drop filled out), length-drop filled out) in
+      omega (
+        arith,
+        length-append (take filled out) (part ++ drop (length out - filled) (drop filled out)),
+        length-append part (drop (length out - filled) (drop filled out)),
+        length-take-le filled out (f .room),
+        f .room,
+        h,
+        none,
+      )
+
+  -- a part of the memory that was lent and came back: what stands before it is as it was
+  pub part-back : (part : List ℕ) → length part ≡ length out - filled → Feeding chunk line len i held filled between (withPart filled out part)
+  part-back part h =
+      let e : filled + 0 ≡ filled = omega arith in
+      let t : take filled (withPart filled out part) ≡ take filled out ++ [] = rw e at (take-more 0 part (omega arith)) in
+      record {
+        same = λ rest. rw (t, append-nil) (f .same rest);
+        place = f .place;
+        kept = f .kept;
+        room = omega (arith, back-length part h, f .room);
+        first = f .first;
+      }
+
+  -- the answer of a line that has ended, in that part
+  pub answer-fed : (n : ℕ) (part : List ℕ) → length part ≡ length out - filled → i < length chunk → getD chunk i 0 ≡ newline
+      → Replies (take held between) (Counted n) part → Feeding chunk line len (i + 1) 0 (filled + n) between (withPart filled out part)
+  answer-fed n part h l e r = record {
+    same = λ rest.
+        f .same rest
+        ∙ (ap (λ (m : List ℕ). take filled out ++ m) (line-said (take held between) chunk i rest l e)
+        ∙ rw (take-more n part (r .0), r .1) (sym (append-assoc (take filled out) (reply (take held between)) (said [] (drop (i + 1) chunk ++ rest)))));
+    place = omega arith;
+    kept = omega arith;
+    room = omega (arith, back-length part h, r .0, h, f .room);
+    first = λ z. absurd (omega (arith, z));
+  }
+
+-- a whole call: nothing is lost, doubled or split, whatever comes after the chunk
+pub record Feeds (chunk line : List ℕ) (len : ℕ) (after out : List ℕ) (r : Fed) : Type 0 where
+  pub same : (rest : List ℕ) → said (take len line) (chunk ++ rest) ≡ take (r .filled) out ++ said (take (r .len) after) (drop (r .next) chunk ++ rest)
+  pub place : r .next ≤ length chunk
+  pub room : r .filled ≤ length out
+  -- memory for the longest answer is enough to go on
+  pub onward : longest < length out → 0 < length chunk → 0 < r .next
+
+module _ (chunk line : List ℕ) (len i held filled : ℕ) (after out : List ℕ) (f : Feeding chunk line len i held filled after out) where
+  pub all-fed : length chunk ≤ i → Feeds chunk line len after out (record { next = i; len = held; filled = filled })
+  all-fed h = record { same = f .same; place = f .place; room = f .room; onward = λ l k. omega arith }
+
+  -- no room for one answer more
+  pub out-full : (m : ℕ) → m < length (reply (take held after)) → length out ≤ filled + m → Feeds chunk line len after out (record { next = i; len = held; filled = filled })
+  out-full m h k = record {
+    same = f .same;
+    place = f .place;
+    room = f .room;
+    onward = λ l c. go i (f .first) l;
+  }
+    where
+      go : (i : ℕ) → (i ≡ 0 → filled ≡ 0) → longest < length out → 0 < i
+      go zero first l = absurd (omega (arith, first refl, reply-short (take held after), h, k, l))
+      go (suc i) first l = omega arith
+
+-- more bytes than the line has are all of it
+take-min : (n : ℕ) (l : List ℕ) → take (min n (length l)) l ≡ take n l
+take-min n l = pick (decLe n (length l))
+  where
+    pick : Dec (n ≤ length l) → take (min n (length l)) l ≡ take n l
+    pick (yes h) = let e : min n (length l) ≡ n = omega arith in rw e
+    pick (no h) = let e : min n (length l) ≡ length l = omega arith in rw (e, take-length l) (sym (take-all n l (omega arith)))
+
+kept-line : (line : List ℕ) (len m : ℕ) → m ≡ min len (length line) → take m line ≡ take len line
+kept-line line len m e = rw e (take-min len line)
+
+pub least-kept : (chunk line : List ℕ) (len m : ℕ) (after out : List ℕ) (r : Fed) → m ≡ min len (length line) → Feeds chunk line m after out r → Feeds chunk line len after out r
+least-kept chunk line len m after out r e f = record {
+  same = λ rest. ap (λ (l : List ℕ). said l (chunk ++ rest)) (sym (kept-line line len m e)) ∙ f .same rest;
+  place = f .place;
+  room = f .room;
+  onward = f .onward;
+}
+
+-- the end of the input: a last line that is not empty is answered
+module _ (line before : List ℕ) where
+  pub nothing-left : left (Counted 0) before ≡ written 0 (said (take 0 line) []) before
+  unfolding said
+  nothing-left = written-done [] before before refl (omega arith) refl refl
+
+  pub last-line : (len m : ℕ) (r : Count) (after : List ℕ) → m ≡ min len (length line) → 0 < m → left r after ≡ written 0 (reply (take m line)) before
+      → left r after ≡ written 0 (said (take len line) []) before
+  unfolding said
+  last-line len m r after e h p =
+      let same = sym (last-replied (take m line) (omega (arith, length-take-le m line (omega (arith, e)), h))) ∙ ap lastReply (kept-line line len m e) in
+      p ∙ ap (λ (items : List ℕ). written 0 items before) same
+
+pub written-within : (items memory after : List ℕ) (n : ℕ) → left (Counted n) after ≡ written 0 items memory → n ≤ length after
+written-within items memory after n e =
+    let w = written-counted items memory after refl e in
+    omega (arith, w .0, ap length (w .1) ∙ length-append items (drop (length items) memory))
+
+refused-kept : (items memory after : List ℕ) (why : Refusal) → left (Refused why) after ≡ written 0 items memory → after ≡ memory
+refused-kept items memory after why e = pick (ltb (length memory) (length items)) e
+  where
+    pick : (b : Bool) → left (Refused why) after ≡ lent (12 when b) items memory → after ≡ memory
+    pick true q = ap (λ (l : Lent ℕ). l .memory) q
+    pick false q = absurd (never-zero why (ap (λ (l : Lent ℕ). l .number) q))
+
+-- the newline behind the answer, which was lent one place less than the memory has
+reply-long : (line : List ℕ) → length (reply line) ≡ length (printed (lineArea line)) + 1
+unfolding reply
+reply-long line = length-append (printed (lineArea line)) (newline ∷ [])
+
+module _ (line memory : List ℕ) where
+  pub no-room : length memory ≡ 0 → left (Refused Memory) memory ≡ written 0 (reply line) memory
+  no-room h = written-short (reply line) memory refl (omega (arith, h, reply-long line))
+
+  module _ (part : List ℕ) (k : ℕ) (h : length memory ≡ suc k) where
+    pub newline-behind : (n : ℕ) → left (Counted n) part ≡ lineWritten line (take k memory) → length part ≡ length (take k memory)
+        → left (Counted (n + 1)) (set (part ++ drop k memory) n newline) ≡ written 0 (reply line) memory
+    unfolding reply
+    newline-behind n e l =
+        let P = printed (lineArea line) in
+        let w = written-counted P (take k memory) part refl e in
+        let t = length-take-le k memory (omega arith) in
+        let few : length P ≤ k = omega (arith, l, t, ap length (w .1) ∙ length-append P (drop (length P) (take k memory))) in
+        let joined : part ++ drop k memory ≡ P ++ drop n memory =
+        ap (λ (x : List ℕ). x ++ drop k memory) (w .1)
+        ∙ (append-assoc P (drop (length P) (take k memory)) (drop k memory)
+        ∙ ap (λ (x : List ℕ). P ++ x) (sym (drop-append-le (length P) (take k memory) (drop k memory) (omega (arith, few, t)))
+        ∙ (ap (λ (x : List ℕ). drop (length P) x) (take-append-drop k memory) ∙ ap (λ (m : ℕ). drop m memory) (sym (w .0))))) in
+        let after : set (part ++ drop k memory) n newline ≡ P ++ newline ∷ drop (suc n) memory =
+        rw (joined, drop-cons memory n 0 (omega (arith, w .0, few))) (set-at P (getD memory n 0) (drop (suc n) memory) newline n (sym (w .0))) in
+        let long : length (P ++ (newline ∷ [])) ≡ suc n = omega (arith, w .0, length-append P (newline ∷ [])) in
+        written-done (P ++ (newline ∷ [])) memory (set (part ++ drop k memory) n newline) refl (omega (arith, long, few, w .0)) (omega (arith, long))
+        (after ∙ rw long (sym (append-assoc P (newline ∷ []) (drop (suc n) memory))))
+
+    pub no-answer : (why : Refusal) → left (Refused why) part ≡ lineWritten line (take k memory) → left (Refused Memory) (part ++ drop k memory) ≡ written 0 (reply line) memory
+    no-answer why e =
+        let P = printed (lineArea line) in
+        let short = written-not P (take k memory) part refl why e in
+        let t = length-take-le k memory (omega arith) in
+        let same : part ++ drop k memory ≡ memory = ap (λ (x : List ℕ). x ++ drop k memory) (refused-kept P (take k memory) part why e) ∙ take-append-drop k memory in
+        rw same (written-short (reply line) memory refl (omega (arith, short, t, h, reply-long line)))

@@ -1,0 +1,4 @@
+pub mod Stream
+pub mod Long
+pub mod Feeding
+pub mod Theorems

@@ -1,0 +1,147 @@
+// Standard input as lines: bytes are taken in as they come, and the answers of the lines come out.
+use constants::MAX_LINE;
+use errors::Count;
+use errors::Refusal;
+ghost use mathlib.Core.Path.{_≡_};
+ghost use mathlib.Core.List.{[]};
+ghost use Prim.Native.Nat.{suc, _≤_, min};
+ghost use lib.ListN.{length, take};
+ghost use Rattle.constants.specs.Limits.{maxLine};
+ghost use Rattle.errors.specs.Answer.{written};
+ghost use Rattle.errors.specs.Cases.{left};
+ghost use Rattle.form_stream.specs.Feeding.{Keeps, Takes, Ends, Feeds};
+ghost use Rattle.form_stream.specs.Stream.{said, reply as Stream·reply};
+
+// How many bytes of a line are kept: one more than a line may have.
+pub const KEPT: usize = MAX_LINE + 1;
+
+// How far the input was taken in: so many bytes of the chunk, of the current line and of the answers.
+pub struct Fed {
+    pub next: usize,
+    pub len: usize,
+    pub filled: usize,
+}
+
+// Where a line ends in a chunk, or the chunk does, and how many bytes of the line are kept.
+struct Taken {
+    at: usize,
+    len: usize,
+}
+
+// A chunk of the input behind a line so far, of which `len` bytes are kept: what is to be printed goes to `out`, as far as there is
+// room for it.
+pub fn feed(chunk: &[u8], line: &mut [u8; KEPT], len: usize, out: &mut [u8]) -> Fed
+    ensures { λ r. ⌜ Feeds (now (chunk .entry)) (now (line .entry)) len (now (line .exit)) (now (out .exit)) r ⌝ }
+{
+    feed_lines(chunk, line, least(len, KEPT), out)
+}
+
+// The end of the input behind a line so far.
+pub fn finish(line: &[u8; KEPT], len: usize, out: &mut [u8]) -> Count
+    ensures { λ r. ⌜ left r (now (out .exit)) ≡ written 0 (said (take len (now (line .entry))) []) (now (out .entry)) ⌝ }
+{
+    if len == 0 {
+        return Count::Counted(0);
+    }
+    reply(front(line, least(len, KEPT)), out)
+}
+
+fn least(a: usize, b: usize) -> usize
+    ensures { λ r. ⌜ r ≡ min a b ⌝ }
+{
+    if a < b { a } else { b }
+}
+
+fn front(line: &[u8], n: usize) -> &[u8]
+    requires { ⌜ n ≤ length (now line) ⌝ }
+    ensures { λ r. ⌜ now r ≡ take n (now (line .entry)) ⌝ }
+{
+    &line[..n]
+}
+
+fn feed_lines(chunk: &[u8], line: &mut [u8], len: usize, out: &mut [u8]) -> Fed
+    requires { ⌜ (length (now line) ≡ suc maxLine) × (len ≤ length (now line)) ⌝ }
+    ensures { λ r. ⌜ Feeds (now (chunk .entry)) (now (line .entry)) len (now (line .exit)) (now (out .exit)) r ⌝ }
+{
+    let mut held = len;
+    let mut filled = 0;
+    let mut i = 0;
+    while i < chunk.len() {
+        let taken = take_line(chunk, i, line, held);
+        let at = taken.at;
+        let n = taken.len;
+        if at == chunk.len() {
+            return Fed {
+                next: at,
+                len: n,
+                filled,
+            };
+        }
+        match reply(&line[..n], &mut out[filled..]) {
+            Count::Counted(m) => {
+                filled += m;
+                held = 0;
+                i = at + 1;
+            }
+            Count::Refused(_) => {
+                return Fed {
+                    next: at,
+                    len: n,
+                    filled,
+                };
+            }
+        }
+    }
+    Fed {
+        next: i,
+        len: held,
+        filled,
+    }
+}
+
+fn take_line(chunk: &[u8], from: usize, line: &mut [u8], len: usize) -> Taken
+    requires { ⌜ from ≤ length (now chunk) ⌝ }
+    requires { ⌜ (length (now line) ≡ suc maxLine) × (len ≤ length (now line)) ⌝ }
+    ensures { λ r. ⌜ Takes (now (chunk .entry)) from (now (line .entry)) len (now (line .exit)) r × Ends (now (chunk .entry)) (r .at) ⌝ }
+{
+    let mut i = from;
+    let mut n = len;
+    while i < chunk.len() {
+        let b = chunk[i];
+        if b == b'\n' {
+            return Taken { at: i, len: n };
+        }
+        n = keep(b, line, n);
+        i += 1;
+    }
+    Taken { at: i, len: n }
+}
+
+// A byte goes to the line, if the line is not too long already.
+fn keep(b: u8, line: &mut [u8], len: usize) -> usize
+    requires { ⌜ (length (now line) ≡ suc maxLine) × (len ≤ length (now line)) ⌝ }
+    ensures { λ r. ⌜ Keeps b (now (line .entry)) len (now (line .exit)) r ⌝ }
+{
+    if len < line.len() {
+        line[len] = b;
+        return len + 1;
+    }
+    len
+}
+
+// The answer of a line, on a line of its own. The answer is lent one place less, so that its newline has one.
+fn reply(line: &[u8], out: &mut [u8]) -> Count
+    ensures { λ r. ⌜ left r (now (out .exit)) ≡ written 0 (Stream·reply (now (line .entry))) (now (out .entry)) ⌝ }
+{
+    let room = out.len();
+    if room == 0 {
+        return Count::Refused(Refusal::Memory);
+    }
+    match form_line::answer(line, &mut out[..room - 1]) {
+        Count::Counted(n) => {
+            out[n] = b'\n';
+            Count::Counted(n + 1)
+        }
+        Count::Refused(_) => Count::Refused(Refusal::Memory),
+    }
+}
