@@ -1,5 +1,5 @@
 -- What is said of the input stays the same while it is taken in, byte by byte and line by line.
-use mathlib.Core.Path.{_≡_, refl, sym, ap, _∙_}
+use mathlib.Core.Path.{_≡_, refl, sym, ap, ap₂, _∙_}
 use mathlib.Core.Bool.{Bool, true, false}
 use mathlib.Core.List.{List, [], _∷_, _++_, append-assoc, append-nil}
 use Prim.Native.Nat.{ℕ, zero, suc, _+_, _-_, _≤_, _<_, min}
@@ -7,8 +7,8 @@ use native.Mathlib.Decide.{decLe}
 use native.Mathlib.Numerals.{add-one}
 use native.Mathlib.Omega.{arith}
 use lib.Dec.{ltb}
-use lib.ListN.{length, take, drop, getD, set, length-append, length-drop, length-set, take-append-drop}
-use lib.Seq.{drop-cons, drop-append-le, set-at, take-suc-set, take-append-le, take-append-add, length-take-le, take-at, take-all, take-length}
+use lib.ListN.{length, take, drop, getD, set, length-append, length-drop, length-set, take-append-drop, drop-of-length-le}
+use lib.Seq.{drop-cons, drop-at, drop-drop, drop-append-add, drop-append-le, set-at, take-suc-set, take-append-add, length-take-le, take-at, take-all, take-length}
 use borrow.Author.Tests.{ne-eqb}
 use Rattle.constants.specs.Limits.{maxLine}
 use Rattle.errors.specs.Answer.{Lent, written, lent, _when_}
@@ -19,11 +19,12 @@ use Rattle.errors.specs.declared.Count.{Count}
 use Rattle.errors.specs.declared.Count.the-variants.{Counted, Refused}
 use Rattle.errors.specs.declared.Refusal.{Refusal}
 use Rattle.errors.specs.declared.Refusal.the-variants.{Memory}
+use Rattle.form.specs.Ends.{rest-part}
 use Rattle.form.specs.Form.{newline}
 use Rattle.form_area.specs.Area.{lineArea}
 use Rattle.form_line.specs.Line.{printed, lineWritten}
 use Rattle.form_line.specs.Longest.{longest, answer-short}
-use Rattle.form_line.specs.Stores.{withPart, written-counted, written-not}
+use Rattle.form_line.specs.Stores.{partFrom, withPart, written-counted, written-not}
 use Rattle.form_stream.specs.Long.{long-more}
 use Rattle.form_stream.specs.Stream.{reply, lastReply, last-replied, said}
 use Rattle.form_stream.specs.declared.Fed.{Fed}
@@ -77,105 +78,110 @@ byte-taken chunk from line len i n m between after t h d k = record {
   within = k .within;
 }
 
--- the answer of a line and its newline at the front of the memory, or too little memory for them
-abbrev pub Replies : List ℕ → Count → List ℕ → Type 0
-Replies line (Counted n) after = (n ≤ length after) × (take n after ≡ reply line)
-Replies line (Refused why) after = length after < length (reply line)
-
--- what the equation says of either
-pub replies : (line : List ℕ) (r : Count) (before after : List ℕ) → left r after ≡ written 0 (reply line) before → length after ≡ length before → Replies line r after
-replies line (Counted n) before after e h =
-    let w = written-counted (reply line) before after refl e in
-    (omega (arith, w .0, ap length (w .1) ∙ length-append (reply line) (drop (length (reply line)) before)), rw (w .1) (take-at (reply line) (drop (length (reply line)) before) n (sym (w .0))))
-replies line (Refused why) before after e h = omega (arith, h, written-not (reply line) before after refl why e)
-
 pub reply-short : (line : List ℕ) → length (reply line) ≤ longest + 1
 unfolding reply
 reply-short line = omega (arith, length-append (printed (lineArea line)) (newline ∷ []), answer-short line)
 
--- how far a chunk has been taken in: what is said of all of it stands in the memory, as far as it is taken in, before what is said of the rest
-pub record Feeding (chunk line : List ℕ) (len i held filled : ℕ) (after out : List ℕ) : Type 0 where
+-- what a call that writes a text says of its memory
+pub written-within : (items memory after : List ℕ) (n : ℕ) → left (Counted n) after ≡ written 0 items memory → n ≤ length after
+written-within items memory after n e =
+    let w = written-counted items memory after refl e in
+    omega (arith, w .0, ap length (w .1) ∙ length-append items (drop (length items) memory))
+
+refused-kept : (items memory after : List ℕ) (why : Refusal) → left (Refused why) after ≡ written 0 items memory → after ≡ memory
+refused-kept items memory after why e = pick (ltb (length memory) (length items)) e
+  where
+    pick : (b : Bool) → left (Refused why) after ≡ lent (12 when b) items memory → after ≡ memory
+    pick true q = ap (λ (l : Lent ℕ). l .memory) q
+    pick false q = absurd (never-zero why (ap (λ (l : Lent ℕ). l .number) q))
+
+-- how far a chunk has been taken in: what is said of all of it stands in the memory, as far as it is taken in, before what is said of the rest; behind
+-- that the memory is as it was before
+pub record Feeding (before chunk line : List ℕ) (len i held filled : ℕ) (after out : List ℕ) : Type 0 where
   pub same : (rest : List ℕ) → said (take len line) (chunk ++ rest) ≡ take filled out ++ said (take held after) (drop i chunk ++ rest)
+  pub behind : drop filled out ≡ drop filled before
   pub place : i ≤ length chunk
   pub kept : held ≤ length after
   pub room : filled ≤ length out
   pub first : i ≡ 0 → filled ≡ 0
 
-pub nothing-fed : (chunk line : List ℕ) (len : ℕ) (out : List ℕ) → len ≤ length line → Feeding chunk line len 0 len 0 line out
-nothing-fed chunk line len out h = record { same = λ rest. refl; place = omega arith; kept = h; room = omega arith; first = λ e. e }
+pub nothing-fed : (chunk line : List ℕ) (len : ℕ) (out : List ℕ) → len ≤ length line → Feeding out chunk line len 0 len 0 line out
+nothing-fed chunk line len out h = record { same = λ rest. refl; behind = refl; place = omega arith; kept = h; room = omega arith; first = λ e. e }
 
-module _ (chunk line : List ℕ) (len i held filled : ℕ) (between out : List ℕ) (f : Feeding chunk line len i held filled between out) where
-  pub line-fed : (after : List ℕ) (r : Taken) → Takes chunk i between held after r → Ends chunk (r .at) → Feeding chunk line len (r .at) (r .len) filled after out
+module _ (before chunk line : List ℕ) (len i held filled : ℕ) (between out : List ℕ) (f : Feeding before chunk line len i held filled between out) where
+  pub line-fed : (after : List ℕ) (r : Taken) → Takes chunk i between held after r → Ends chunk (r .at) → Feeding before chunk line len (r .at) (r .len) filled after out
   line-fed after r t e = record {
     same = λ rest. f .same rest ∙ ap (λ (l : List ℕ). take filled out ++ l) (t .same rest);
+    behind = f .behind;
     place = e .within;
     kept = t .within;
     room = f .room;
     first = λ z. f .first (omega (arith, z, t .onward));
   }
 
-  take-more : (n : ℕ) (part : List ℕ) → n ≤ length part → take (filled + n) (withPart filled out part) ≡ take filled out ++ take n part
-  take-more n part h =
-      let l = length-take-le filled out (f .room) in
-      let e : filled + n ≡ length (take filled out) + n = omega (arith, l) in
-      rw (e, take-append-add (take filled out) (part ++ drop (length out - filled) (drop filled out)) n, take-append-le n part (drop (length out - filled) (drop filled out)) h)
+  -- a part of the memory that was lent and came back
+  part-all : (part : List ℕ) → withPart filled out part ≡ take filled out ++ part
+  part-all part =
+      let past : length (drop filled out) ≤ length out - filled = omega (arith, length-drop filled out) in
+      rw (drop-of-length-le (drop filled out) past, append-nil)
 
   pub back-length : (part : List ℕ) → length part ≡ length out - filled → length (withPart filled out part) ≡ length out
   back-length part h =
-      let none : length (drop (length out - filled) (drop filled out)) ≡ 0 = omega (arith, length-drop (length out - filled) (drop filled out), length-drop filled out) in
-      omega (
-        arith,
-        length-append (take filled out) (part ++ drop (length out - filled) (drop filled out)),
-        length-append part (drop (length out - filled) (drop filled out)),
-        length-take-le filled out (f .room),
-        f .room,
-        h,
-        none,
-      )
+      ap length (part-all part) ∙ omega (arith, length-append (take filled out) part, length-take-le filled out (f .room), f .room, h)
 
-  -- a part of the memory that was lent and came back: what stands before it is as it was
-  pub part-back : (part : List ℕ) → length part ≡ length out - filled → Feeding chunk line len i held filled between (withPart filled out part)
-  part-back part h =
-      let e : filled + 0 ≡ filled = omega arith in
-      let t : take filled (withPart filled out part) ≡ take filled out ++ [] = rw e at (take-more 0 part (omega arith)) in
+  -- no answer was written to it
+  pub not-answered : (part : List ℕ) (why : Refusal) → left (Refused why) part ≡ written 0 (reply (take held between)) (partFrom filled out)
+      → (length (partFrom filled out) < length (reply (take held between))) × (withPart filled out part ≡ out)
+  not-answered part why e = (
+    written-not (reply (take held between)) (partFrom filled out) part refl why e,
+    part-all part ∙ (ap (λ (l : List ℕ). take filled out ++ l) (refused-kept (reply (take held between)) (partFrom filled out) part why e ∙ rest-part out filled)
+        ∙ take-append-drop filled out),
+  )
+
+  -- the answer of a line that has ended was
+  pub answer-fed : (n : ℕ) (part : List ℕ) → length part ≡ length out - filled → i < length chunk → getD chunk i 0 ≡ newline
+      → left (Counted n) part ≡ written 0 (reply (take held between)) (partFrom filled out)
+      → Feeding before chunk line len (i + 1) 0 (filled + n) between (withPart filled out part)
+  answer-fed n part h l e r =
+      let text = reply (take held between) in
+      let w = written-counted text (partFrom filled out) part refl r in
+      let t = length-take-le filled out (f .room) in
+      let sum : filled + n ≡ length (take filled out) + n = omega (arith, t) in
+      let taken : take n part ≡ text = rw (w .1) (take-at text (drop (length text) (partFrom filled out)) n (sym (w .0))) in
+      let left-over : drop n part ≡ drop n (drop filled out) =
+      rw (w .1) (drop-at text (drop (length text) (partFrom filled out)) n (sym (w .0))) ∙ ap₂ (λ (m : ℕ) (p : List ℕ). drop m p) (sym (w .0)) (rest-part out filled) in
       record {
-        same = λ rest. rw (t, append-nil) (f .same rest);
-        place = f .place;
-        kept = f .kept;
-        room = omega (arith, back-length part h, f .room);
-        first = f .first;
+        same = λ rest.
+            f .same rest
+            ∙ (ap (λ (m : List ℕ). take filled out ++ m) (line-said (take held between) chunk i rest l e)
+            ∙ rw (part-all part, sum, take-append-add (take filled out) part n, taken) (sym (append-assoc (take filled out) text (said [] (drop (i + 1) chunk ++ rest)))));
+        behind =
+            rw (part-all part, sum, drop-append-add (take filled out) part n, left-over, f .behind) (drop-drop n filled before ∙ ap (λ (m : ℕ). drop m before) sum);
+        place = omega arith;
+        kept = omega arith;
+        room = omega (arith, back-length part h, written-within text (partFrom filled out) part n r, h, f .room);
+        first = λ z. absurd (omega (arith, z));
       }
 
-  -- the answer of a line that has ended, in that part
-  pub answer-fed : (n : ℕ) (part : List ℕ) → length part ≡ length out - filled → i < length chunk → getD chunk i 0 ≡ newline
-      → Replies (take held between) (Counted n) part → Feeding chunk line len (i + 1) 0 (filled + n) between (withPart filled out part)
-  answer-fed n part h l e r = record {
-    same = λ rest.
-        f .same rest
-        ∙ (ap (λ (m : List ℕ). take filled out ++ m) (line-said (take held between) chunk i rest l e)
-        ∙ rw (take-more n part (r .0), r .1) (sym (append-assoc (take filled out) (reply (take held between)) (said [] (drop (i + 1) chunk ++ rest)))));
-    place = omega arith;
-    kept = omega arith;
-    room = omega (arith, back-length part h, r .0, h, f .room);
-    first = λ z. absurd (omega (arith, z));
-  }
-
 -- a whole call: nothing is lost, doubled or split, whatever comes after the chunk
-pub record Feeds (chunk line : List ℕ) (len : ℕ) (after out : List ℕ) (r : Fed) : Type 0 where
+pub record Feeds (before chunk line : List ℕ) (len : ℕ) (after out : List ℕ) (r : Fed) : Type 0 where
   pub same : (rest : List ℕ) → said (take len line) (chunk ++ rest) ≡ take (r .filled) out ++ said (take (r .len) after) (drop (r .next) chunk ++ rest)
+  -- behind what is to be printed the memory is as it was
+  pub behind : drop (r .filled) out ≡ drop (r .filled) before
   pub place : r .next ≤ length chunk
   pub room : r .filled ≤ length out
   -- memory for the longest answer is enough to go on
   pub onward : longest < length out → 0 < length chunk → 0 < r .next
 
-module _ (chunk line : List ℕ) (len i held filled : ℕ) (after out : List ℕ) (f : Feeding chunk line len i held filled after out) where
-  pub all-fed : length chunk ≤ i → Feeds chunk line len after out (record { next = i; len = held; filled = filled })
-  all-fed h = record { same = f .same; place = f .place; room = f .room; onward = λ l k. omega arith }
+module _ (before chunk line : List ℕ) (len i held filled : ℕ) (after out : List ℕ) (f : Feeding before chunk line len i held filled after out) where
+  pub all-fed : length chunk ≤ i → Feeds before chunk line len after out (record { next = i; len = held; filled = filled })
+  all-fed h = record { same = f .same; behind = f .behind; place = f .place; room = f .room; onward = λ l k. omega arith }
 
   -- no room for one answer more
-  pub out-full : (m : ℕ) → m < length (reply (take held after)) → length out ≤ filled + m → Feeds chunk line len after out (record { next = i; len = held; filled = filled })
+  pub out-full : (m : ℕ) → m < length (reply (take held after)) → length out ≤ filled + m → Feeds before chunk line len after out (record { next = i; len = held; filled = filled })
   out-full m h k = record {
     same = f .same;
+    behind = f .behind;
     place = f .place;
     room = f .room;
     onward = λ l c. go i (f .first) l;
@@ -196,9 +202,11 @@ take-min n l = pick (decLe n (length l))
 kept-line : (line : List ℕ) (len m : ℕ) → m ≡ min len (length line) → take m line ≡ take len line
 kept-line line len m e = rw e (take-min len line)
 
-pub least-kept : (chunk line : List ℕ) (len m : ℕ) (after out : List ℕ) (r : Fed) → m ≡ min len (length line) → Feeds chunk line m after out r → Feeds chunk line len after out r
-least-kept chunk line len m after out r e f = record {
+pub least-kept : (before chunk line : List ℕ) (len m : ℕ) (after out : List ℕ) (r : Fed) → m ≡ min len (length line) → Feeds before chunk line m after out r
+    → Feeds before chunk line len after out r
+least-kept before chunk line len m after out r e f = record {
   same = λ rest. ap (λ (l : List ℕ). said l (chunk ++ rest)) (sym (kept-line line len m e)) ∙ f .same rest;
+  behind = f .behind;
   place = f .place;
   room = f .room;
   onward = f .onward;
@@ -216,18 +224,6 @@ module _ (line before : List ℕ) where
   last-line len m r after e h p =
       let same = sym (last-replied (take m line) (omega (arith, length-take-le m line (omega (arith, e)), h))) ∙ ap lastReply (kept-line line len m e) in
       p ∙ ap (λ (items : List ℕ). written 0 items before) same
-
-pub written-within : (items memory after : List ℕ) (n : ℕ) → left (Counted n) after ≡ written 0 items memory → n ≤ length after
-written-within items memory after n e =
-    let w = written-counted items memory after refl e in
-    omega (arith, w .0, ap length (w .1) ∙ length-append items (drop (length items) memory))
-
-refused-kept : (items memory after : List ℕ) (why : Refusal) → left (Refused why) after ≡ written 0 items memory → after ≡ memory
-refused-kept items memory after why e = pick (ltb (length memory) (length items)) e
-  where
-    pick : (b : Bool) → left (Refused why) after ≡ lent (12 when b) items memory → after ≡ memory
-    pick true q = ap (λ (l : Lent ℕ). l .memory) q
-    pick false q = absurd (never-zero why (ap (λ (l : Lent ℕ). l .number) q))
 
 -- the newline behind the answer, which was lent one place less than the memory has
 reply-long : (line : List ℕ) → length (reply line) ≡ length (printed (lineArea line)) + 1

@@ -47,7 +47,7 @@ a-last-line line h k =
 -- hand out to be printed. Where the input is cut into chunks, and how much of a chunk a call takes in, is free.
 pub data Prints : List ℕ → List ℕ → List ℕ → Type 0 where
   finished : (line : List ℕ) (len n : ℕ) (before out : List ℕ) → left (Counted n) out ≡ written 0 (said (take len line) []) before → Prints (take len line) [] (take n out)
-  fed : (chunk line : List ℕ) (len : ℕ) (after out : List ℕ) (r : Fed) (rest printed : List ℕ) → Feeds chunk line len after out r
+  fed : (chunk line : List ℕ) (len : ℕ) (before after out : List ℕ) (r : Fed) (rest printed : List ℕ) → Feeds before chunk line len after out r
       → Prints (take (r .len) after) (drop (r .next) chunk ++ rest) printed → Prints (take len line) (chunk ++ rest) (take (r .filled) out ++ printed)
 
 -- what is printed is what is said of the input: "A short read never splits a line"
@@ -56,5 +56,5 @@ chunks-do-not-matter (finished line len n before out f) =
     let last = said (take len line) [] in
     let w = written-counted last before out refl f in
     rw (w .1) (take-at last (drop (length last) before) n (sym (w .0)))
-chunks-do-not-matter (fed chunk line len after out r rest printed f p) =
+chunks-do-not-matter (fed chunk line len before after out r rest printed f p) =
     ap (λ (l : List ℕ). take (r .filled) out ++ l) (chunks-do-not-matter p) ∙ sym (f .same rest)

@@ -31,7 +31,7 @@ struct Taken {
 // A chunk of the input behind a line so far, of which `len` bytes are kept: what is to be printed goes to `out`, as far as there is
 // room for it.
 pub fn feed(chunk: &[u8], line: &mut [u8; KEPT], len: usize, out: &mut [u8]) -> Fed
-    ensures { λ r. ⌜ Feeds (now (chunk .entry)) (now (line .entry)) len (now (line .exit)) (now (out .exit)) r ⌝ }
+    ensures { λ r. ⌜ Feeds (now (out .entry)) (now (chunk .entry)) (now (line .entry)) len (now (line .exit)) (now (out .exit)) r ⌝ }
 {
     feed_lines(chunk, line, least(len, KEPT), out)
 }
@@ -61,7 +61,7 @@ fn front(line: &[u8], n: usize) -> &[u8]
 
 fn feed_lines(chunk: &[u8], line: &mut [u8], len: usize, out: &mut [u8]) -> Fed
     requires { ⌜ (length (now line) ≡ suc maxLine) × (len ≤ length (now line)) ⌝ }
-    ensures { λ r. ⌜ Feeds (now (chunk .entry)) (now (line .entry)) len (now (line .exit)) (now (out .exit)) r ⌝ }
+    ensures { λ r. ⌜ Feeds (now (out .entry)) (now (chunk .entry)) (now (line .entry)) len (now (line .exit)) (now (out .exit)) r ⌝ }
 {
     let mut held = len;
     let mut filled = 0;

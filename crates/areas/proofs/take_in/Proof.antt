@@ -42,7 +42,7 @@ module _ (c : tie.After-feed Inv-loop μ-loop) where
   abbrev part : List ℕ
   part = partFrom (begun .loop .at) (top .args .chunk .now)
 
-  fed : Feeds part (begun .loop .line) (begun .loop .held) (c .feed .last .1 .0) (c .feed .last .1 .1 .1 .0) (c .feed .result)
+  fed : Feeds (begun .loop .out) part (begun .loop .line) (begun .loop .held) (c .feed .last .1 .0) (c .feed .last .1 .1 .1 .0) (c .feed .result)
   fed = c .feed .ensures
 
   out-same : length (c .feed .last .1 .1 .1 .0) ≡ length (top .args .out .now)

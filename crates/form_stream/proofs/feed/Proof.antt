@@ -21,7 +21,7 @@ same-length c = search needs
 returns : tie.Need-returns
 returns c =
     let s = c .before .before .before .before .before .before .before .before in
-    least-kept _ (s .args .line .now) _ _ _ _ _ (omega (arith, s .good, c .before .before .before .before .least .ensures)) (c .before .before .feed-lines .ensures)
+    least-kept _ _ (s .args .line .now) _ _ _ _ _ (omega (arith, s .good, c .before .before .before .before .least .ensures)) (c .before .before .feed-lines .ensures)
 
 pub feed-spec : {M : Type 1} → statement M
 feed-spec = tie.close (tie.spec least-requires feed-lines-requires same-length returns)

@@ -9,12 +9,15 @@ use borrow.Author.Needs.{needs}
 use Rattle.errors.specs.declared.Count.{Count}
 use Rattle.form.specs.Form.{newline}
 use Rattle.form_line.specs.Stores.{partFrom, withPart, part-length}
-use Rattle.form_stream.specs.Feeding.{Feeding, Replies, replies, nothing-fed, line-fed, part-back, back-length, answer-fed, all-fed, out-full}
+use Rattle.form_stream.specs.Feeding.{Feeding, Feeds, written-within, nothing-fed, line-fed, back-length, not-answered, answer-fed, all-fed, out-full}
+use Rattle.form_stream.specs.Stream.{reply}
+use Rattle.errors.specs.Answer.{written}
+use Rattle.errors.specs.Cases.{left}
 use Rattle.form_stream.proofs.feed_lines.Statement.{statement}
 use Rattle.form_stream.proofs.feed_lines.Tie as tie
 
 abbrev Inv-loop : tie.InvT-loop
-Inv-loop chunk line₀ len out₀ held₀ filled₀ i₀ line out held filled i = (length line ≡ length line₀) × (length out ≡ length out₀) × Feeding chunk line₀ len i held filled line out
+Inv-loop chunk line₀ len out₀ held₀ filled₀ i₀ line out held filled i = (length line ≡ length line₀) × (length out ≡ length out₀) × Feeding out₀ chunk line₀ len i held filled line out
 
 abbrev μ-loop : tie.MeasureT-loop
 μ-loop chunk line₀ len out₀ held₀ filled₀ i₀ line out held filled i = length chunk - i
@@ -38,8 +41,8 @@ module _ (c : tie.After-take-line Inv-loop μ-loop) where
   abbrev after : List ℕ
   after = c .take-line .last .1 .1 .0
 
-  fed : Feeding (top .args .chunk .now) (top .args .line .now) (top .args .len) (c .take-line .result .at) (c .take-line .result .len) (begun .loop .filled) after (begun .loop .out)
-  fed = line-fed _ _ _ _ _ _ _ _ (begun .loop .inv .2) after (c .take-line .result) (c .take-line .ensures .0) (c .take-line .ensures .1)
+  fed : Feeding (top .args .out .now) (top .args .chunk .now) (top .args .line .now) (top .args .len) (c .take-line .result .at) (c .take-line .result .len) (begun .loop .filled) after (begun .loop .out)
+  fed = line-fed _ _ _ _ _ _ _ _ _ (begun .loop .inv .2) after (c .take-line .result) (c .take-line .ensures .0) (c .take-line .ensures .1)
 
   line-same : length after ≡ length (top .args .line .now)
   line-same = c .take-line .kept .1 .1 .0 ∙ begun .loop .inv .0
@@ -51,7 +54,7 @@ same-length-2 : tie.Need-same-length-2 Inv-loop μ-loop
 same-length-2 c = begun (c .before .before .before) .loop .inv .1
 
 returns : tie.Need-returns Inv-loop μ-loop
-returns c = let a = c .before .before .before in all-fed _ _ _ _ _ _ _ _ (fed a) (omega (arith, c .if1 .taken))
+returns c = let a = c .before .before .before in all-fed _ _ _ _ _ _ _ _ _ (fed a) (omega (arith, c .if1 .taken))
 
 slice-reshare-prefix-reply : tie.Need-slice-reshare-prefix-reply Inv-loop μ-loop
 slice-reshare-prefix-reply c = fed (c .before .before .before) .kept
@@ -82,8 +85,11 @@ module _ (c : tie.After-reply Inv-loop μ-loop) where
   part-same : length part ≡ length (begun taken .loop .out) - begun taken .loop .filled
   part-same = c .reply .kept .1 .0 ∙ part-length (begun taken .loop .filled) (begun taken .loop .out)
 
-  replied : {r : Count} → c .reply .result ≡ r → Replies (take (taken .take-line .result .len) (after taken)) r part
-  replied e = subst (λ (r : Count). Replies (take (taken .take-line .result .len) (after taken)) r part) e (replies (take (taken .take-line .result .len) (after taken)) (c .reply .result) (partFrom (begun taken .loop .filled) (begun taken .loop .out)) part (c .reply .ensures) (c .reply .kept .1 .0))
+  replied : {r : Count} → c .reply .result ≡ r
+      → left r part ≡ written 0 (reply (take (taken .take-line .result .len) (after taken))) (partFrom (begun taken .loop .filled) (begun taken .loop .out))
+  replied e =
+      subst (λ (r : Count). left r part ≡ written 0 (reply (take (taken .take-line .result .len) (after taken))) (partFrom (begun taken .loop .filled) (begun taken .loop .out))) e
+      (c .reply .ensures)
 
   line-ends : (taken .take-line .result .at < length (top taken .args .chunk .now)) × (getD (top taken .args .chunk .now) (taken .take-line .result .at) 0 ≡ newline)
   line-ends =
@@ -92,7 +98,7 @@ module _ (c : tie.After-reply Inv-loop μ-loop) where
       (h, e .stops h)
 
   out-same : length (withPart (begun taken .loop .filled) (begun taken .loop .out) part) ≡ length (top taken .args .out .now)
-  out-same = back-length _ _ _ _ _ _ _ _ (fed taken) part part-same ∙ begun taken .loop .inv .1
+  out-same = back-length _ _ _ _ _ _ _ _ _ (fed taken) part part-same ∙ begun taken .loop .inv .1
 
 enum-known-m : tie.Need-enum-known-m Inv-loop μ-loop
 enum-known-m c = search needs
@@ -100,7 +106,7 @@ enum-known-m c = search needs
 add-filled : tie.Need-add-filled Inv-loop μ-loop
 add-filled c =
     let r = c .before .before .before .before .before in
-    omega (arith, replied r (c .before .m .given .1) .0, part-same r, fed (taken r) .room, begun (taken r) .loop .inv .1, top (taken r) .good)
+    omega (arith, written-within (reply (take (taken r .take-line .result .len) (after (taken r)))) (partFrom (begun (taken r) .loop .filled) (begun (taken r) .loop .out)) (part r) (c .before .m .given .0 .0) (replied r (c .before .m .given .1)), part-same r, fed (taken r) .room, begun (taken r) .loop .inv .1, top (taken r) .good)
 
 add-i : tie.Need-add-i Inv-loop μ-loop
 add-i c = search needs
@@ -115,7 +121,7 @@ loop-again c =
     let r = c .before .before .before .before .before in
     let a = taken r in
     let e = line-ends r in
-    (line-same a, out-same r, answer-fed _ _ _ _ _ _ _ _ (fed a) (c .before .m .given .0 .0) (part r) (part-same r) (e .0) (e .1) (replied r (c .before .m .given .1)))
+    (line-same a, out-same r, answer-fed _ _ _ _ _ _ _ _ _ (fed a) (c .before .m .given .0 .0) (part r) (part-same r) (e .0) (e .1) (replied r (c .before .m .given .1)))
 
 enum-told : tie.Need-enum-told Inv-loop μ-loop
 enum-told c = search needs
@@ -130,8 +136,12 @@ returns-2 : tie.Need-returns-2 Inv-loop μ-loop
 returns-2 c =
     let r = c .before .before .before .before in
     let a = taken r in
-    let b = back-length _ _ _ _ _ _ _ _ (fed a) (part r) (part-same r) in
-    out-full _ _ _ _ _ _ _ _ (part-back _ _ _ _ _ _ _ _ (fed a) (part r) (part-same r)) (length (part r)) (replied r (c .enum-told .given .1)) (omega (arith, b, part-same r, fed a .room))
+    let t = top a .args in
+    let filled = begun a .loop .filled in
+    let out = begun a .loop .out in
+    let e = not-answered _ _ _ _ _ _ _ _ _ (fed a) (part r) (c .enum-told .given .0 .0) (replied r (c .enum-told .given .1)) in
+    subst (λ (o : List ℕ). Feeds (t .out .now) (t .chunk .now) (t .line .now) (t .len) (after a) o (record { next = a .take-line .result .at; len = a .take-line .result .len; filled = filled })) (sym (e .1))
+    (out-full _ _ _ _ _ _ _ _ _ (fed a) (length (partFrom filled out)) (e .0) (omega (arith, part-length filled out, fed a .room)))
 
 same-length-5 : tie.Need-same-length-5 Inv-loop μ-loop
 same-length-5 c = c .before .loop .inv .0
@@ -140,7 +150,7 @@ same-length-6 : tie.Need-same-length-6 Inv-loop μ-loop
 same-length-6 c = c .before .loop .inv .1
 
 returns-3 : tie.Need-returns-3 Inv-loop μ-loop
-returns-3 c = all-fed _ _ _ _ _ _ _ _ (c .before .loop .inv .2) (c .loop-test .left)
+returns-3 c = all-fed _ _ _ _ _ _ _ _ _ (c .before .loop .inv .2) (c .loop-test .left)
 
 pub feed-lines-spec : {M : Type 1} → statement M
 feed-lines-spec =
