@@ -5,3 +5,4 @@ pub mod Stores
 pub mod Text
 pub mod Answered
 pub mod Longest
+pub mod Theorems
