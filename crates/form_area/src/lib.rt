@@ -9,9 +9,8 @@ use form::Word;
 use tile::OptionU8;
 use tile::TileAnswer;
 ghost use mathlib.Core.Path.{_≡_};
-ghost use mathlib.Core.List.{_++_};
 ghost use Prim.Native.Nat.{_≤_};
-ghost use lib.ListN.{length, drop};
+ghost use lib.ListN.{length};
 ghost use Rattle.constants.specs.Limits.{maxLine, formPlaces};
 ghost use Rattle.errors.specs.Answer.{written as Answer·written};
 ghost use Rattle.errors.specs.Cases.{left};
@@ -44,19 +43,8 @@ fn written(list: &[u64], out: &mut [u64]) -> Count
     if out.len() < n {
         return Count::Refused(Refusal::Memory);
     }
-    copy(list, out);
+    sort::copy(list, &mut out[..n]);
     Count::Counted(n)
-}
-
-fn copy(list: &[u64], out: &mut [u64])
-    requires { ⌜ length (now list) ≤ length (now out) ⌝ }
-    ensures { λ _. ⌜ now (out .exit) ≡ now (list .entry) ++ drop (length (now (list .entry))) (now (out .entry)) ⌝ }
-{
-    let mut i = 0;
-    while i < list.len() {
-        out[i] = list[i];
-        i += 1;
-    }
 }
 
 // The settled list of the form that takes all of the line.

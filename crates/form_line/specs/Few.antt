@@ -16,6 +16,7 @@ use Rattle.area.specs.Settled.{settled-entries-settled}
 use Rattle.bits.specs.Tests.{allOf, into-map}
 use Rattle.constants.specs.Limits.{maxZoom, maxLine, formPlaces}
 use Rattle.errors.specs.Answer.{answer, Lent, short, _when_, _else_}
+use Rattle.errors.specs.Laws.{else-zero}
 use Rattle.form.specs.Form.{Form, tiles, pair, Reads, tooDeep}
 use Rattle.form.specs.Reading.{reading}
 use Rattle.form.specs.declared.Verb.{Verb}
@@ -88,10 +89,6 @@ covered-fits : {G : ℕ → ℕ → Bool} {P : Tile → Type 0} → Cover maxZoo
     → length list ≤ formPlaces → Fits (settledEntries G)
 covered-fits {G} C list all h =
     settled-fits G (omega (arith, length-map (settledList maxZoom G) (λ (t : Tile). entryOf (t .x) (t .y) (t .z)), length-map list entryTile, settled-no-longer C (tilesOf list) all, h))
-
-else-zero : (n m : ℕ) → n else m ≡ 0 → (n ≡ 0) × (m ≡ 0)
-else-zero zero m e = (refl, e)
-else-zero (suc n) m e = absurd (omega arith)
 
 when-zero : (n : ℕ) (b : Bool) → suc n when b ≡ 0 → b ≡ false
 when-zero n true e = absurd (omega arith)

@@ -99,9 +99,19 @@ module _ {k : ℕ} (items memory after : List ℕ) (fine : k ≡ 0) where
       pick true q = let z : _≡_ {A = ℕ} 0 12 = ap (λ (l : Lent ℕ). l .number) q in absurd (omega arith)
       pick false q = (ap (λ (l : Lent ℕ). l .value) q, ap (λ (l : Lent ℕ). l .memory) q)
 
+  pub written-within : {n : ℕ} → left (count.Counted n) after ≡ written k items memory → n ≤ length after
+  written-within e = let w = written-counted e in omega (arith, w .0, ap length (w .1) ∙ length-append items (drop (length items) memory))
+
   pub written-not : (why : Refusal) → left (count.Refused why) after ≡ written k items memory → length memory < length items
   written-not why e = pick (ltb (length memory) (length items)) refl (rw fine at e)
     where
       pick : (b : Bool) → ltb (length memory) (length items) ≡ b → left (count.Refused why) after ≡ lent (12 when b) items memory → length memory < length items
       pick true p q = ltb-true _ _ p
       pick false p q = absurd (never-zero why (ap (λ (l : Lent ℕ). l .number) q))
+
+  pub refused-kept : (why : Refusal) → left (count.Refused why) after ≡ written k items memory → after ≡ memory
+  refused-kept why e = pick (ltb (length memory) (length items)) (rw fine at e)
+    where
+      pick : (b : Bool) → left (count.Refused why) after ≡ lent (12 when b) items memory → after ≡ memory
+      pick true q = ap (λ (l : Lent ℕ). l .memory) q
+      pick false q = absurd (never-zero why (ap (λ (l : Lent ℕ). l .number) q))

@@ -1,19 +1,16 @@
 -- What is said of the input stays the same while it is taken in, byte by byte and line by line.
 use mathlib.Core.Path.{_≡_, refl, sym, ap, ap₂, _∙_}
-use mathlib.Core.Bool.{Bool, true, false}
 use mathlib.Core.List.{List, [], _∷_, _++_, append-assoc, append-nil}
 use Prim.Native.Nat.{ℕ, zero, suc, _+_, _-_, _≤_, _<_, min}
 use native.Mathlib.Decide.{decLe}
 use native.Mathlib.Numerals.{add-one}
 use native.Mathlib.Omega.{arith}
-use lib.Dec.{ltb}
 use lib.ListN.{length, take, drop, getD, set, length-append, length-drop, length-set, take-append-drop, drop-of-length-le}
 use lib.Seq.{drop-cons, drop-at, drop-drop, drop-append-add, drop-append-le, set-at, take-suc-set, take-append-add, length-take-le, take-at, take-all, take-length}
 use borrow.Author.Tests.{ne-eqb}
 use Rattle.constants.specs.Limits.{maxLine}
-use Rattle.errors.specs.Answer.{Lent, written, lent, _when_}
+use Rattle.errors.specs.Answer.{written}
 use Rattle.errors.specs.Cases.{left}
-use Rattle.errors.specs.Laws.{never-zero}
 use Rattle.errors.specs.Memory.{written-short, written-done}
 use Rattle.errors.specs.declared.Count.{Count}
 use Rattle.errors.specs.declared.Count.the-variants.{Counted, Refused}
@@ -24,7 +21,7 @@ use Rattle.form.specs.Form.{newline}
 use Rattle.form_area.specs.Area.{lineArea}
 use Rattle.form_line.specs.Line.{printed, lineWritten}
 use Rattle.form_line.specs.Longest.{longest, answer-short}
-use Rattle.form_line.specs.Stores.{partFrom, withPart, written-counted, written-not}
+use Rattle.form_line.specs.Stores.{partFrom, withPart, written-counted, written-within, written-not, refused-kept}
 use Rattle.form_stream.specs.Long.{long-more}
 use Rattle.form_stream.specs.Stream.{reply, lastReply, last-replied, said}
 use Rattle.form_stream.specs.declared.Fed.{Fed}
@@ -82,19 +79,6 @@ pub reply-short : (line : List ℕ) → length (reply line) ≤ longest + 1
 unfolding reply
 reply-short line = omega (arith, length-append (printed (lineArea line)) (newline ∷ []), answer-short line)
 
--- what a call that writes a text says of its memory
-pub written-within : (items memory after : List ℕ) (n : ℕ) → left (Counted n) after ≡ written 0 items memory → n ≤ length after
-written-within items memory after n e =
-    let w = written-counted items memory after refl e in
-    omega (arith, w .0, ap length (w .1) ∙ length-append items (drop (length items) memory))
-
-refused-kept : (items memory after : List ℕ) (why : Refusal) → left (Refused why) after ≡ written 0 items memory → after ≡ memory
-refused-kept items memory after why e = pick (ltb (length memory) (length items)) e
-  where
-    pick : (b : Bool) → left (Refused why) after ≡ lent (12 when b) items memory → after ≡ memory
-    pick true q = ap (λ (l : Lent ℕ). l .memory) q
-    pick false q = absurd (never-zero why (ap (λ (l : Lent ℕ). l .number) q))
-
 -- how far a chunk has been taken in: what is said of all of it stands in the memory, as far as it is taken in, before what is said of the rest; behind
 -- that the memory is as it was before
 pub record Feeding (before chunk line : List ℕ) (len i held filled : ℕ) (after out : List ℕ) : Type 0 where
@@ -134,7 +118,7 @@ module _ (before chunk line : List ℕ) (len i held filled : ℕ) (between out :
       → (length (partFrom filled out) < length (reply (take held between))) × (withPart filled out part ≡ out)
   not-answered part why e = (
     written-not (reply (take held between)) (partFrom filled out) part refl why e,
-    part-all part ∙ (ap (λ (l : List ℕ). take filled out ++ l) (refused-kept (reply (take held between)) (partFrom filled out) part why e ∙ rest-part out filled)
+    part-all part ∙ (ap (λ (l : List ℕ). take filled out ++ l) (refused-kept (reply (take held between)) (partFrom filled out) part refl why e ∙ rest-part out filled)
         ∙ take-append-drop filled out),
   )
 
@@ -159,7 +143,7 @@ module _ (before chunk line : List ℕ) (len i held filled : ℕ) (between out :
             rw (part-all part, sum, drop-append-add (take filled out) part n, left-over, f .behind) (drop-drop n filled before ∙ ap (λ (m : ℕ). drop m before) sum);
         place = omega arith;
         kept = omega arith;
-        room = omega (arith, back-length part h, written-within text (partFrom filled out) part n r, h, f .room);
+        room = omega (arith, back-length part h, written-within text (partFrom filled out) part refl r, h, f .room);
         first = λ z. absurd (omega (arith, z));
       }
 
@@ -259,5 +243,5 @@ module _ (line memory : List ℕ) where
         let P = printed (lineArea line) in
         let short = written-not P (take k memory) part refl why e in
         let t = length-take-le k memory (omega arith) in
-        let same : part ++ drop k memory ≡ memory = ap (λ (x : List ℕ). x ++ drop k memory) (refused-kept P (take k memory) part why e) ∙ take-append-drop k memory in
+        let same : part ++ drop k memory ≡ memory = ap (λ (x : List ℕ). x ++ drop k memory) (refused-kept P (take k memory) part refl why e) ∙ take-append-drop k memory in
         rw same (written-short (reply line) memory refl (omega (arith, short, t, h, reply-long line)))

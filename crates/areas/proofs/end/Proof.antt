@@ -1,5 +1,5 @@
 -- `end` is safe: the answer stands at the front of the memory.
-use mathlib.Core.Path.{_≡_, sym, subst}
+use mathlib.Core.Path.{_≡_, refl, sym, subst}
 use Prim.Native.Nat.{ℕ, _≤_}
 use mathlib.Core.List.{[]}
 use lib.ListN.{length, take}
@@ -8,7 +8,7 @@ use Rattle.errors.specs.declared.Count.{Count}
 use Rattle.errors.specs.declared.Count.the-variants.{Counted}
 use Rattle.errors.specs.Answer.{written}
 use Rattle.errors.specs.Cases.{left}
-use Rattle.form_stream.specs.Feeding.{written-within}
+use Rattle.form_line.specs.Stores.{written-within}
 use Rattle.form_stream.specs.Stream.{said}
 use borrow.Author.Needs.{needs}
 use Rattle.areas.proofs.end.Statement.{statement}
@@ -24,7 +24,7 @@ within : {n : ℕ} (c : tie.After-finish) → c .finish .result ≡ Counted n �
 within c e =
     let a = c .before .before .before .args in
     let last = said (take (a .len) (a .line .now)) [] in
-    written-within last (a .out .now) (c .finish .last .1 .1 .0) _
+    written-within last (a .out .now) (c .finish .last .1 .1 .0) refl
     (subst (λ (r : Count). left r (c .finish .last .1 .1 .0) ≡ written 0 last (a .out .now)) e (c .finish .ensures))
 
 slice-reshare-prefix-write-all : tie.Need-slice-reshare-prefix-write-all

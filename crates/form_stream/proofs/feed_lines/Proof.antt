@@ -8,8 +8,8 @@ use lib.Seq.{length-take-le}
 use borrow.Author.Needs.{needs}
 use Rattle.errors.specs.declared.Count.{Count}
 use Rattle.form.specs.Form.{newline}
-use Rattle.form_line.specs.Stores.{partFrom, withPart, part-length}
-use Rattle.form_stream.specs.Feeding.{Feeding, Feeds, written-within, nothing-fed, line-fed, back-length, not-answered, answer-fed, all-fed, out-full}
+use Rattle.form_line.specs.Stores.{partFrom, withPart, part-length, written-within}
+use Rattle.form_stream.specs.Feeding.{Feeding, Feeds, nothing-fed, line-fed, back-length, not-answered, answer-fed, all-fed, out-full}
 use Rattle.form_stream.specs.Stream.{reply}
 use Rattle.errors.specs.Answer.{written}
 use Rattle.errors.specs.Cases.{left}
@@ -106,7 +106,7 @@ enum-known-m c = search needs
 add-filled : tie.Need-add-filled Inv-loop μ-loop
 add-filled c =
     let r = c .before .before .before .before .before in
-    omega (arith, written-within (reply (take (taken r .take-line .result .len) (after (taken r)))) (partFrom (begun (taken r) .loop .filled) (begun (taken r) .loop .out)) (part r) (c .before .m .given .0 .0) (replied r (c .before .m .given .1)), part-same r, fed (taken r) .room, begun (taken r) .loop .inv .1, top (taken r) .good)
+    omega (arith, written-within (reply (take (taken r .take-line .result .len) (after (taken r)))) (partFrom (begun (taken r) .loop .filled) (begun (taken r) .loop .out)) (part r) refl (replied r (c .before .m .given .1)), part-same r, fed (taken r) .room, begun (taken r) .loop .inv .1, top (taken r) .good)
 
 add-i : tie.Need-add-i Inv-loop μ-loop
 add-i c = search needs

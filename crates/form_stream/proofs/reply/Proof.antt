@@ -1,5 +1,5 @@
 -- `reply` meets its contract: the answer is lent one place less, and the newline goes behind it.
-use mathlib.Core.Path.{_≡_, sym, subst}
+use mathlib.Core.Path.{_≡_, refl, sym, subst}
 use Prim.Native.Nat.{suc, _-_, _<_}
 use native.Mathlib.Omega.{arith}
 use lib.ListN.{length, take, drop, length-append, length-drop}
@@ -7,8 +7,9 @@ use lib.Seq.{length-take-le}
 use Rattle.errors.specs.Cases.{left}
 use Rattle.errors.specs.declared.Count.{Count}
 use Rattle.form_area.specs.Area.{lineArea}
+use Rattle.form_line.specs.Stores.{written-within}
 use Rattle.form_line.specs.Line.{printed, lineWritten}
-use Rattle.form_stream.specs.Feeding.{written-within, no-room, newline-behind, no-answer}
+use Rattle.form_stream.specs.Feeding.{no-room, newline-behind, no-answer}
 use borrow.Author.Needs.{needs}
 use Rattle.form_stream.proofs.reply.Statement.{statement}
 use Rattle.form_stream.proofs.reply.Tie as tie
@@ -31,7 +32,7 @@ inside c =
     let a = c .before .before .before .before .before .before .before .before .before .args in
     omega (
       arith,
-      written-within (printed (lineArea (a .line .now))) (take (length (a .out .now) - 1) (a .out .now)) (c .before .before .before .before .answer .last .1 .0) (c .n .given .0 .0) (answered (c .before .before .before .before) (c .n .given .1)),
+      written-within (printed (lineArea (a .line .now))) (take (length (a .out .now) - 1) (a .out .now)) (c .before .before .before .before .answer .last .1 .0) refl (answered (c .before .before .before .before) (c .n .given .1)),
       lent-length (c .before .before .before .before),
       some-room (c .before .before .before .before .before .before),
     )
