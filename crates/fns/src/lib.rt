@@ -7,7 +7,7 @@ use tile::OptionU8;
 use tile::Tile;
 use tile::TileAnswer;
 ghost use mathlib.Core.Path.{_≡_};
-ghost use Prim.Native.Nat.{_<_};
+ghost use Prim.Native.Nat.{_+_, _/_, _^_, _<_};
 ghost use Rattle.errors.specs.Cases.{u32Case};
 ghost use Rattle.tile.specs.Given.{given};
 ghost use Rattle.tile.specs.OnMap.{tileCase};
@@ -68,18 +68,27 @@ pub fn parent(x: u32, y: u32, z: u8, n: OptionU8) -> TileAnswer
     if let Check::Refused(why) = tile::check(x, y, z) {
         return TileAnswer::Refused(why);
     }
-    if z == 0 {
+    let steps = n.unwrap_or(0);
+    if z <= steps {
         return TileAnswer::Refused(Refusal::NoRelative);
     }
-    let steps = n.unwrap_or(0);
-    if steps == 0 {
-        return TileAnswer::Found(Tile {
-            x: x / 2,
-            y: y / 2,
-            z: z - 1,
-        });
+    TileAnswer::Found(Tile {
+        x: parent_coordinate(x, 1, steps),
+        y: parent_coordinate(y, 1, steps),
+        z: z - 1 - steps,
+    })
+}
+
+// `parent`'s recursion, for a column or a row: `up` zooms above it, and one zoom more for each step that is left. The zooms are
+// counted and shifted by at the end: the compiler makes one shift of that, where halving at each step stays a loop.
+fn parent_coordinate(c: u32, up: u8, n: u8) -> u32
+    requires { ⌜ up + n < 32 ⌝ }
+    ensures { λ r. ⌜ r ≡ c / 2 ^ (up + n) ⌝ }
+{
+    if n == 0 {
+        return c >> up;
     }
-    parent(x / 2, y / 2, z - 1, OptionU8::Some(steps - 1))
+    parent_coordinate(c, up + 1, n - 1)
 }
 
 // The zoom of the tile that holds a box of 32-bit corners: the bits of its columns, and of its rows, agree above it.

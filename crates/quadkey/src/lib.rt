@@ -13,8 +13,8 @@ ghost use lib.ListN.{length, drop};
 ghost use denote.Ref.{ptr};
 ghost use Rattle.constants.specs.Limits.{maxZoom};
 ghost use Rattle.errors.specs.Cases.{checkNumber, left};
-ghost use Rattle.tile.specs.OnMap.{tileAt, tileCase};
-ghost use Rattle.quadkey.specs.Key.{digitAt, keyFrom, keyWritten, isDigit, allDigits, keyRefusal, isKey, columnOf, rowOf, keyTile, flipDigit, flipWritten, ancestorRefusal, sharedLength, sharedRefusal, leadingPart};
+ghost use Rattle.tile.specs.OnMap.{tileCase};
+ghost use Rattle.quadkey.specs.Key.{digitAt, keyFrom, keyWritten, isDigit, allDigits, keyRefusal, isKey, keyTile, flipDigit, flipWritten, ancestorRefusal, sharedLength, sharedRefusal, leadingPart};
 
 pub fn is_quadkey_byte(b: u8) -> bool
     ensures { λ r. ⌜ r ≡ isDigit b ⌝ }
@@ -48,35 +48,31 @@ pub fn is_quadkey(key: &[u8]) -> bool
     }
 }
 
+// The tile of a key: the bytes are tested as they are read.
 pub fn quadkey2xyz(key: &[u8]) -> TileAnswer
     ensures { λ r. ⌜ tileCase r ≡ keyTile (now (key .entry)) ⌝ }
 {
-    match check(key) {
-        Check::Fine => TileAnswer::Found(spelled(key)),
-        Check::Refused(why) => TileAnswer::Refused(why),
+    let zoom = key.len();
+    if zoom > MAX_ZOOM as usize {
+        return TileAnswer::Refused(Refusal::KeyLength);
     }
-}
-
-// The tile that a key spells, digit by digit.
-fn spelled(key: &[u8]) -> Tile
-    requires { ⌜ length (now key) ≤ maxZoom ⌝ }
-    requires { ⌜ allDigits (now key) ≡ true ⌝ }
-    ensures { λ r. ⌜ r ≡ tileAt (columnOf (now (key .entry))) (rowOf (now (key .entry))) (length (now (key .entry))) ⌝ }
-{
     let mut x: u32 = 0;
     let mut y: u32 = 0;
     let mut i = 0;
-    while i < key.len() {
+    while i < zoom {
+        if !is_quadkey_byte(key[i]) {
+            return TileAnswer::Refused(Refusal::KeyByte);
+        }
         let digit = wide(key[i] - b'0');
         x = 2 * x + digit % 2;
         y = 2 * y + digit / 2 % 2;
         i += 1;
     }
-    Tile {
+    TileAnswer::Found(Tile {
         x,
         y,
-        z: key.len() as u8,
-    }
+        z: zoom as u8,
+    })
 }
 
 fn wide(b: u8) -> u32
