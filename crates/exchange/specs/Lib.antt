@@ -1,4 +1,5 @@
 pub mod Parts
 pub mod Laws
 pub mod Partition
+pub mod Halves
 pub mod Merge
