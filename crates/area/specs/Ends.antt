@@ -2,7 +2,7 @@
 use mathlib.Core.Path.{_≡_, refl, sym, ap, ap₂, _∙_, subst}
 use mathlib.Core.Bool.{Bool, true, false, not, _&&_, _||_}
 use mathlib.Core.List.{List, _++_, map, append-nil}
-use Prim.Native.Nat.{ℕ, _+_, _-_, _≤_, _<_}
+use Prim.Native.Nat.{ℕ, _+_, _-_, _*_, _≤_, _<_}
 use native.Mathlib.Omega.{arith}
 use borrow.Author.Tests.{lt-ltb, le-ltb}
 use lib.ListN.{length, take, drop, length-append, length-map}
@@ -17,9 +17,10 @@ use Rattle.area.specs.declared.Work.{Work}
 use Rattle.bits.specs.Tests.{and-parts, allOf, any-append}
 use Rattle.common.specs.Common.{shared}
 use Rattle.constants.specs.Limits.{maxZoom}
+use Rattle.difference.specs.Bound.{without-length}
 use Rattle.difference.specs.Left.{without}
 use Rattle.difference.specs.Order.{without-runs}
-use Rattle.difference.specs.Walk.{sets-full}
+use Rattle.difference.specs.Walk.{sets-front}
 use Rattle.errors.specs.Answer.{Lent, written, _when_, _else_}
 use Rattle.errors.specs.Cases.{left}
 use Rattle.errors.specs.Memory.{written-short, written-done}
@@ -63,16 +64,16 @@ module _ (a b : List ℕ) (passed : pairTests a b ≡ 0) where
   both : (allOf isEntry a && allOf isEntry b ≡ true) × (isSettled a && isSettled b ≡ true)
   both = tests-passed (allOf isEntry a && allOf isEntry b) (isSettled a && isSettled b) passed
 
-  entries-a : allOf isEntry a ≡ true
+  pub entries-a : allOf isEntry a ≡ true
   entries-a = and-parts (allOf isEntry a) (allOf isEntry b) (both .0) .0
 
-  entries-b : allOf isEntry b ≡ true
+  pub entries-b : allOf isEntry b ≡ true
   entries-b = and-parts (allOf isEntry a) (allOf isEntry b) (both .0) .1
 
-  settled-a : isSettled a ≡ true
+  pub settled-a : isSettled a ≡ true
   settled-a = and-parts (isSettled a) (isSettled b) (both .1) .0
 
-  settled-b : isSettled b ≡ true
+  pub settled-b : isSettled b ≡ true
   settled-b = and-parts (isSettled a) (isSettled b) (both .1) .1
 
   -- the sets that the code makes are the settled lists that are promised
@@ -93,11 +94,11 @@ module _ (a b : List ℕ) (passed : pairTests a b ≡ 0) where
       (difference-covers (placesOf a) (placesOf b) (groundOf a) (groundOf b) (places-cover a entries-a) (places-cover b entries-b))
       (difference-tops (placesOf a) (placesOf b) (groundOf a) (groundOf b) (places-cover a entries-a) (places-cover b entries-b) (places-tops a entries-a settled-a))
 
+pub places-length : (list : List ℕ) → length (placesOf list) ≡ length list
+places-length list = sort-length (map (entryKey true) list) ∙ length-map list (entryKey true)
+
 -- the places of both lists as two settled sets
 module _ (a b keys : List ℕ) (r : Ready a b keys) where
-  places-length : (list : List ℕ) → length (placesOf list) ≡ length list
-  places-length list = sort-length (map (entryKey true) list) ∙ length-map list (entryKey true)
-
   abbrev pub front : List ℕ
   front = take (length a + length b) keys
 
@@ -130,19 +131,43 @@ module _ (a b keys : List ℕ) (r : Ready a b keys) where
   made-listed {all} {after} {memory} {n} {count} m =
       subst (λ (S : Tile → Bool). Listed S memory count) (m .tiles ∙ ap₂ (madeSet all) (front-first a b keys r) (front-second a b keys r))
 
+  abbrev tiles-left : List Tile
+  tiles-left = without (placesOf a) (placesOf b)
+
+  pub few-left : length tiles-left ≤ length a + 3 * (maxZoom * length b)
+  few-left = rw (places-length a, places-length b) at (without-length (placesOf a) (r .in-runs .first) (placesOf b) (r .in-runs .second))
+
   module _ (before after : List ℕ) (n : ℕ) (m : Remains (take (length a) ahead) (drop (length a) ahead) before after n)
-      (e : length before ≡ length (without (placesOf a) (placesOf b))) where
-    abbrev tiles-left : List Tile
-    tiles-left = without (placesOf a) (placesOf b)
+      (e : length tiles-left ≤ length before) where
+    left-first : after ≡ map placeOf tiles-left ++ drop (length (map placeOf tiles-left)) before
+    left-first =
+        m .written ∙ (ap (λ (l : List Tile). sets before 0 (map placeOf l)) (front-left a b keys r)
+        ∙ sets-front before (map placeOf tiles-left) (omega (arith, length-map tiles-left placeOf)))
+
+    left-many : length (map placeOf tiles-left) ≡ n
+    left-many = length-map tiles-left placeOf ∙ sym (m .count ∙ ap length (front-left a b keys r))
 
     pub left-all : (take n after ≡ map placeOf tiles-left) × (n ≤ length after)
-    left-all =
-        let w : after ≡ map placeOf tiles-left = m .written ∙ (ap (λ (l : List Tile). sets before 0 (map placeOf l)) (front-left a b keys r) ∙ sets-full before (map placeOf tiles-left) (length-map tiles-left placeOf ∙ sym e)) in
-        let c : n ≡ length after = m .count ∙ (ap length (front-left a b keys r) ∙ sym (ap length w ∙ length-map tiles-left placeOf)) in
-        (take-all n after (omega arith) ∙ w, omega arith)
+    left-all = (
+      rw left-first (take-at (map placeOf tiles-left) (drop (length (map placeOf tiles-left)) before) n left-many),
+      rw left-first (omega (arith, left-many, length-append (map placeOf tiles-left) (drop (length (map placeOf tiles-left)) before))),
+    )
+
+    left-twice : take n (take n after) ≡ take n after
+    left-twice = take-all n (take n after) (omega (arith, length-take-le n after (left-all .1)))
+
+    pub left-rest : drop n after ≡ drop n before
+    left-rest = rw left-first (drop-at (map placeOf tiles-left) (drop (length (map placeOf tiles-left)) before) n left-many ∙ ap (λ (i : ℕ). drop i before) left-many)
 
     pub left-numbers : TileNumbers placeOf (take n after)
     left-numbers = rw (left-all .0) (runs-numbers (map placeOf tiles-left) (without-runs (placesOf a) (placesOf b) (r .in-runs .first)))
+
+    -- where what is left is lent on by itself
+    pub part-numbers : (n ≤ length (take n after)) × TileNumbers placeOf (take n (take n after))
+    part-numbers = (omega (arith, length-take-le n after (left-all .1)), rw left-twice left-numbers)
+
+    pub part-listed : {memory : List ℕ} {count : ℕ} → Listed (named placeTile (take n (take n after))) memory count → Listed (leftSet a b) memory count
+    part-listed {memory} {count} = subst (λ (l : List ℕ). Listed (named placeTile l) memory count) (left-twice ∙ left-all .0)
 
     pub left-listed : {memory : List ℕ} {count : ℕ} → Listed (named placeTile (take n after)) memory count → Listed (leftSet a b) memory count
     left-listed {memory} {count} = subst (λ (l : List ℕ). Listed (named placeTile l) memory count) (left-all .0)
@@ -212,6 +237,16 @@ module _ (a b keys memory : List ℕ) (r : Ready a b keys) where
       let f : n ≡ length remains = counted-left e in
       ap (λ (i : ℕ). left (count.Counted m) (after ++ drop i memory)) f
       ∙ difference-done after m (omega (arith, h)) (k ∙ (length-take-le n memory h ∙ f)) l
+
+  pub walked-done : (after : List ℕ) (n : ℕ) → Remains (take (length a) (front a b keys r)) (drop (length a) (front a b keys r)) memory after n
+      → length remains ≤ length memory → (part : List ℕ) (m : ℕ) → length part ≡ length (take n after) → Listed (named placeTile (take n (take n after))) part m
+      → left (count.Counted m) (part ++ drop n after) ≡ differenceOf a b memory
+  walked-done after n w e part m k l =
+      let f : n ≡ length remains = counted-left (w .count) in
+      let g : n ≤ length memory = omega arith in
+      ap (λ (rest : List ℕ). left (count.Counted m) (part ++ rest)) (left-rest a b keys r memory after n w e)
+      ∙ remaining-done n (w .count) part m g (k ∙ (length-take-le n after (left-all a b keys r memory after n w e .1) ∙ sym (length-take-le n memory g)))
+      (part-listed a b keys r memory after n w e l)
 
 -- each work's own promise is what is asked of it
 pub by-work : {work : Work} {answer : Lent ℕ} (a b memory : List ℕ) (w : Work) → work ≡ w → answer ≡ workOf w a b memory → answer ≡ workOf work a b memory

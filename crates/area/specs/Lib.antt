@@ -1,3 +1,4 @@
+pub mod Theorems
 pub mod Area
 pub mod Grounds
 pub mod Settled

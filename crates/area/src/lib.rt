@@ -1,18 +1,20 @@
 // Union, common part and difference of two settled lists in lent memory.
 use constants::MAX_ENTRIES;
+use constants::MAX_ZOOM;
 use errors::Check;
 use errors::Count;
 use errors::Refusal;
 ghost use mathlib.Core.Path.{_≡_};
 ghost use mathlib.Core.Bool.{true};
 ghost use mathlib.Core.Logic.{_⊎_};
-ghost use Prim.Native.Nat.{_+_, _≤_};
+ghost use Prim.Native.Nat.{_+_, _*_, _≤_};
 ghost use lib.ListN.{length, take, drop};
 ghost use Rattle.area.specs.Area.{unionOf, commonOf, differenceOf};
 ghost use Rattle.area.specs.Work.{workOf, joinOf, placesOf, KeyedBoth, SettledBoth, Placed, Ready, Parted, Made, Remains, madeSet, leftSet};
-ghost use Rattle.constants.specs.Limits.{maxEntries};
+ghost use Rattle.constants.specs.Limits.{maxEntries, maxZoom};
 ghost use Rattle.difference.specs.Left.{without};
 ghost use Rattle.errors.specs.Cases.{left};
+ghost use Rattle.errors.specs.declared.Count.the-variants.{Counted};
 ghost use Rattle.tile_list.specs.Finish.{Listed};
 
 // The ground of either list.
@@ -204,18 +206,40 @@ fn united(places: &[u64], n: usize, out: &mut [u64]) -> usize
     settle::settle(out, 0)
 }
 
-// The count is known before the first write.
+// The count is known before the first write, unless there is room for whatever can be left.
 fn remaining(a: &[u64], b: &[u64], keys: &mut [u64], out: &mut [u64]) -> Count
     requires { ⌜ Ready (now a) (now b) (now keys) ⌝ }
     ensures { λ r. ⌜ left r (now (out .exit)) ≡ differenceOf (now (a .entry)) (now (b .entry)) (now (out .entry)) ⌝ }
 {
     let n = a.len();
+    if most_left(n, b.len()) <= out.len() {
+        return Count::Counted(walked(a, b, keys, out));
+    }
     let both = n + b.len();
     let count = counted(&keys[..both], n);
     if out.len() < count {
         return Count::Refused(Refusal::Memory);
     }
     Count::Counted(written(a, b, keys, &mut out[..count]))
+}
+
+// How many tiles can be left of n when m are taken away.
+fn most_left(n: usize, m: usize) -> usize
+    requires { ⌜ (n ≤ maxEntries) × (m ≤ maxEntries) ⌝ }
+    ensures { λ r. ⌜ r ≡ n + 3 * (maxZoom * m) ⌝ }
+{
+    n + 3 * (MAX_ZOOM as usize * m)
+}
+
+// What is left goes to memory that has room for all of it, in one walk.
+fn walked(a: &[u64], b: &[u64], keys: &mut [u64], out: &mut [u64]) -> usize
+    requires { ⌜ Ready (now a) (now b) (now keys) × (length (now a) + 3 * (maxZoom * length (now b)) ≤ length (now out)) ⌝ }
+    ensures { λ r. ⌜ left (Counted r) (now (out .exit)) ≡ differenceOf (now (a .entry)) (now (b .entry)) (now (out .entry)) ⌝ }
+{
+    let n = a.len();
+    let both = n + b.len();
+    let count = remain(&keys[..both], n, out);
+    tile_list::finish(&mut out[..count], count, keys, true)
 }
 
 // Where there is no room, the tiles that are left are only counted.

@@ -6,3 +6,4 @@ pub mod Steps
 pub mod Middle
 pub mod Ground
 pub mod Order
+pub mod Bound

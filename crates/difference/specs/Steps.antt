@@ -1,9 +1,11 @@
 -- The steps of the walk at a tile, by its place k and half its run: the tile is kept, dropped, or handed to its four children.
 use mathlib.Core.Path.{_≡_, sym, ap, _∙_}
+use mathlib.Core.Bool.{true, false}
 use mathlib.Core.List.{List, [], _∷_, map}
 use Prim.Native.Nat.{ℕ, suc, _+_, _-_, _*_, _/_, _≤_, _<_}
+use native.Mathlib.Decide.{decLt}
 use native.Mathlib.Omega.{arith}
-use lib.ListN.{length, getD, set}
+use lib.ListN.{length, set}
 use Rattle.constants.specs.Limits.{maxZoom}
 use Rattle.quadtree.specs.Laws.{place-tile}
 use Rattle.quadtree.specs.Numbers.{placeOf, placeTile}
@@ -15,7 +17,7 @@ use Rattle.tile_set.specs.Holds.{valid-child}
 use Rattle.tile_set.specs.Set.{child}
 use Rattle.difference.specs.Left.{leftOf, leftAt, fourAt}
 use Rattle.difference.specs.Touch.{past-all, before-next, in-next, over-next, not-deepest}
-use Rattle.difference.specs.Walk.{Behind, Come, Wrote, AtTile, AtFour, Walked, behind-on, come-on, wrote-none, wrote-one, wrote-both}
+use Rattle.difference.specs.Walk.{Behind, Come, Wrote, AtTile, AtFour, Clear, Walked, behind-on, come-on, wrote-none, wrote-one, wrote-both}
 
 pub passed-on : {gone : List ℕ} {k low from next count : ℕ} → AtTile gone k low from count → Behind gone (k - low) next → AtTile gone k low next count
 passed-on a b = record { place = a .place; half = a .half; runs = a .runs; come = record { behind = b; few = a .come .few } }
@@ -39,52 +41,51 @@ module _ {gone : List ℕ} {k low next count : ℕ} (a : AtTile gone k low next 
       record { behind = rw g (behind-on (a .come .behind) (omega arith)); few = omega (arith, a .come .few, room (a .place) (a .half) .some) } in
       record { come = r; wrote = rw (f, h, v) (wrote-one t count before) }
 
-  pub kept-past : next ≡ length gone → Keeps
-  kept-past h = kept (past-all gone (a .runs) t (a .place .of-map) (maxZoom - t .z) next behind h)
+  pub kept-clear : Clear true gone next (k + low) → Keeps
+  kept-clear c = kept (pick (decLt next (length gone)))
+    where
+      pick : Dec (next < length gone) → leftAt gone k ≡ t ∷ []
+      pick (yes h) = before-next gone (a .runs) t (a .place .of-map) (maxZoom - t .z) next behind h (omega (arith, c h, a .half, a .place .again))
+      pick (no h) = past-all gone (a .runs) t (a .place .of-map) (maxZoom - t .z) next behind (omega (arith, a .come .behind .within))
 
   -- the next tile that is taken away, half whose run is `wide` long
-  module _ (h : next < length gone) {wide : ℕ} (f : wide ≡ lowOf (tiles gone next)) where
-    next-place : placeOf (tiles gone next) ≡ getD gone next 0
-    next-place = a .runs .each next h .again
+  module _ (n : Clear false gone next (k + low)) {wide : ℕ} (f : wide ≡ lowOf (tiles gone next)) (y : k - low < endOf (tiles gone next)) where
+    h : next < length gone
+    h = n .0
 
-    pub kept-before : k + low ≤ getD gone next 0 - wide → Keeps
-    kept-before q =
-        kept (before-next gone (a .runs) t (a .place .of-map) (maxZoom - t .z) next behind h (omega (arith, a .half, a .place .again, next-place)))
+    begins : startOf (tiles gone next) < endOf t
+    begins = omega (arith, n .1, a .half, a .place .again)
 
-    module _ (x : getD gone next 0 - wide < k + low) (y : k - low < endOf (tiles gone next)) where
-      begins : startOf (tiles gone next) < endOf t
-      begins = omega (arith, a .half, a .place .again, next-place)
+    ends : startOf t < endOf (tiles gone next)
+    ends = omega (arith, a .half, a .place .again)
 
-      ends : startOf t < endOf (tiles gone next)
-      ends = omega (arith, a .half, a .place .again)
+    pub dropped : low ≤ wide → (l : List ℕ) → Walked (leftAt gone k) gone (k + low) count l l next count
+    dropped q l =
+        let g = in-next gone (a .runs) t (a .place .of-map) (maxZoom - t .z) next behind h begins ends (omega (arith, a .half)) in
+        record { come = come-on (a .come) (omega arith); wrote = rw g (wrote-none count l) }
 
-      pub dropped : low ≤ wide → (l : List ℕ) → Walked (leftAt gone k) gone (k + low) count l l next count
-      dropped q l =
-          let g = in-next gone (a .runs) t (a .place .of-map) (maxZoom - t .z) next behind h begins ends (omega (arith, a .half)) in
-          record { come = come-on (a .come) (omega arith); wrote = rw g (wrote-none count l) }
+    module _ (q : wide < low) where
+      higher : t .z < maxZoom
+      higher = not-deepest gone (a .runs) t (a .place .of-map) 0 next behind h begins ends (omega (arith, a .half))
 
-      module _ (q : wide < low) where
-        higher : t .z < maxZoom
-        higher = not-deepest gone (a .runs) t (a .place .of-map) 0 next behind h begins ends (omega (arith, a .half))
+      quarters : 4 * (low / 4) ≡ low
+      quarters = omega (arith, a .half, low-child t higher 0 0)
 
-        quarters : 4 * (low / 4) ≡ low
-        quarters = omega (arith, a .half, low-child t higher 0 0)
+      pub handing : AtFour gone k (low / 4) next count
+      handing = record {
+        place = a .place;
+        higher = higher;
+        half = quarters ∙ a .half;
+        runs = a .runs;
+        come = come-on (a .come) (omega (arith, quarters));
+      }
 
-        pub handing : AtFour gone k (low / 4) next count
-        handing = record {
-          place = a .place;
-          higher = higher;
-          half = quarters ∙ a .half;
-          runs = a .runs;
-          come = come-on (a .come) (omega (arith, quarters));
-        }
-
-        pub handed : {n c : ℕ} {before after : List ℕ} → Walked (fourAt gone k) gone (k + 4 * (low / 4)) count before after n c
-            → Walked (leftAt gone k) gone (k + low) count before after n c
-        handed w =
-            let d : maxZoom - t .z ≡ suc (maxZoom - suc (t .z)) = omega (arith, higher) in
-            let o = over-next gone (a .runs) t (a .place .of-map) (maxZoom - suc (t .z)) next behind h begins ends (omega (arith, a .half)) in
-            record { come = come-on (w .come) (omega (arith, quarters)); wrote = rw (d, o) (w .wrote) }
+      pub handed : {n c : ℕ} {before after : List ℕ} → Walked (fourAt gone k) gone (k + 4 * (low / 4)) count before after n c
+          → Walked (leftAt gone k) gone (k + low) count before after n c
+      handed w =
+          let d : maxZoom - t .z ≡ suc (maxZoom - suc (t .z)) = omega (arith, higher) in
+          let o = over-next gone (a .runs) t (a .place .of-map) (maxZoom - suc (t .z)) next behind h begins ends (omega (arith, a .half)) in
+          record { come = come-on (w .come) (omega (arith, quarters)); wrote = rw (d, o) (w .wrote) }
 
 -- m is the place of a child of the tile at k, and half the child's run is q long
 pub record ChildPlace (k q m i j : ℕ) : Type 0 where

@@ -1,5 +1,6 @@
 -- The walk along the quadtree: how far it has come, and what it writes on the way.
 use mathlib.Core.Path.{_≡_, refl, sym, ap, _∙_}
+use mathlib.Core.Bool.{Bool, true, false}
 use mathlib.Core.List.{List, [], _∷_, _++_, map, map-append, append-nil}
 use Prim.Native.Nat.{ℕ, suc, _+_, _-_, _*_, _≤_, _<_}
 use native.Mathlib.Nat.{add-zero}
@@ -9,7 +10,7 @@ use lib.ListN.{length, drop, set, length-append, length-map}
 use lib.Seq.{sets, sets-eq, drop-length}
 use Rattle.constants.specs.Limits.{maxZoom}
 use Rattle.quadtree.specs.Numbers.{placeOf, placeTile}
-use Rattle.settle.specs.Places.{lowOf, endOf, IsPlace}
+use Rattle.settle.specs.Places.{lowOf, startOf, endOf, IsPlace}
 use Rattle.settle.specs.Settle.{tiles}
 use Rattle.settled.specs.Runs.{Runs}
 use Rattle.tile.specs.declared.Tile.{Tile}
@@ -43,6 +44,11 @@ pub record AtFour (gone : List ℕ) (k quarter next count : ℕ) : Type 0 where
   pub half : 4 * quarter ≡ lowOf (placeTile k)
   pub runs : Runs gone
   pub come : Come gone (k - 4 * quarter) next count
+
+-- where the answer is true, no tile that is taken away from `next` on starts before the number `end`, and where it is false, the next one does
+abbrev pub Clear : Bool → List ℕ → ℕ → ℕ → Type 0
+Clear true gone next end = next < length gone → end ≤ startOf (tiles gone next)
+Clear false gone next end = (next < length gone) × (startOf (tiles gone next) < end)
 
 -- the walk has come to the number `to`, and what is left on the way is written
 pub record Walked (left : List Tile) (gone : List ℕ) (to count : ℕ) (before after : List ℕ) (next r : ℕ) : Type 0 where

@@ -1,7 +1,7 @@
 // What is left of the tiles of one settled list when those of another are taken away, by their places along the quadtree.
 ghost use mathlib.Core.Path.{_≡_};
 ghost use mathlib.Core.List.{map};
-ghost use Prim.Native.Nat.{_+_, _*_, _^_, _<_};
+ghost use Prim.Native.Nat.{_+_, _*_, _^_, _≤_, _<_};
 ghost use lib.ListN.{length, set};
 ghost use lib.Seq.{sets};
 ghost use Rattle.quadtree.specs.Numbers.{placeOf};
@@ -9,7 +9,7 @@ ghost use Rattle.settle.specs.Places.{endOf};
 ghost use Rattle.settle.specs.Settle.{tiles};
 ghost use Rattle.settled.specs.Runs.{Runs};
 ghost use Rattle.difference.specs.Left.{leftAt, fourAt, without};
-ghost use Rattle.difference.specs.Walk.{Behind, AtTile, AtFour, Walked};
+ghost use Rattle.difference.specs.Walk.{Behind, AtTile, AtFour, Clear, Walked};
 
 // How far the walk has come: the next of the tiles that are taken away, and how many tiles are left so far.
 struct Mark {
@@ -43,15 +43,11 @@ fn tile(k: u64, low: u64, gone: &[u64], out: &mut [u64], at: Mark) -> Mark
         count: at.count,
     };
     let next = here.next;
-    if next == gone.len() {
+    if clear(gone, next, k + low) {
         return keep(k, out, here);
     }
     let g = gone[next];
-    let wide = settle::low_bit(g);
-    if k + low <= g - wide {
-        return keep(k, out, here);
-    }
-    if low <= wide {
+    if low <= settle::low_bit(g) {
         return here;
     }
     four(k, low / 4, gone, out, here)
@@ -62,10 +58,36 @@ fn four(k: u64, quarter: u64, gone: &[u64], out: &mut [u64], at: Mark) -> Mark
     requires { ⌜ AtFour (now gone) k quarter (at .next) (at .count) ⌝ }
     ensures { λ r. ⌜ Walked (fourAt (now (gone .entry)) k) (now (gone .entry)) (k + 4 * quarter) (at .count) (now (out .entry)) (now (out .exit)) (r .next) (r .count) ⌝ }
 {
-    let first = tile(k - 3 * quarter, quarter, gone, out, at);
-    let second = tile(k - quarter, quarter, gone, out, first);
-    let third = tile(k + quarter, quarter, gone, out, second);
-    tile(k + 3 * quarter, quarter, gone, out, third)
+    let first = child(k - 3 * quarter, quarter, gone, out, at);
+    let second = child(k - quarter, quarter, gone, out, first);
+    let third = child(k + quarter, quarter, gone, out, second);
+    child(k + 3 * quarter, quarter, gone, out, third)
+}
+
+// Most children are kept, and are not worth a call of `tile`.
+fn child(k: u64, low: u64, gone: &[u64], out: &mut [u64], at: Mark) -> Mark
+    requires { ⌜ AtTile (now gone) k low (at .next) (at .count) ⌝ }
+    ensures { λ r. ⌜ Walked (leftAt (now (gone .entry)) k) (now (gone .entry)) (k + low) (at .count) (now (out .entry)) (now (out .exit)) (r .next) (r .count) ⌝ }
+{
+    if clear(gone, at.next, k + low) {
+        return keep(k, out, at);
+    }
+    tile(k, low, gone, out, at)
+}
+
+// Whether the tiles taken away, from the next one on, start at `end` or after it.
+fn clear(gone: &[u64], next: usize, end: u64) -> bool
+    requires { ⌜ Runs (now gone) × (next ≤ length (now gone)) ⌝ }
+    ensures { λ r. ⌜ Clear r (now (gone .entry)) next end ⌝ }
+{
+    if next == gone.len() {
+        return true;
+    }
+    let g = gone[next];
+    if g - settle::low_bit(g) < end {
+        return false;
+    }
+    true
 }
 
 // The tiles taken away that end at `start` or before it are passed.

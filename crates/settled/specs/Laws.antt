@@ -128,6 +128,14 @@ module _ (list keys places : List ℕ) (e : allOf isEntry list ≡ true) (k : ke
   same : named placeTile places ≡ listed list
   same = ap (named placeTile) sorted ∙ places-named list e
 
+  -- of a settled list the runs follow each other
+  pub settled-runs : isSettled list ≡ true → Runs places
+  unfolding isSettled
+  settled-runs h =
+      let a = and-parts (strictlyInOrder list) _ h in
+      let b = and-parts (noneBeside list) (noneWith list) (a .1) in
+      apart-runs places sorted-places (rw sorted (places-rise list e (a .0))) (rw same (beside-apart list (b .0)))
+
   module _ (b : Bool) (f : b ≡ strictlyInOrder list) (g : not b ≡ false) (r : Bool) (l : Lone places r) where
     order : strictlyInOrder list ≡ true
     order = sym f ∙ not-false b g
@@ -145,12 +153,9 @@ module _ (list keys places : List ℕ) (e : allOf isEntry list ≡ true) (k : ke
         rest : (noneBeside list && noneWith list) ≡ true
         rest = and-parts (strictlyInOrder list) _ h .1
 
-        runs : Runs places
-        runs = apart-runs places sorted-places (rw sorted (places-rise list e order)) (rw same (beside-apart list (and-parts (noneBeside list) (noneWith list) rest .0)))
-
         pick : (c : Bool) → r ≡ c → r ≡ true
         pick true q = q
-        pick false q = absurd (l .off q runs (rw same (with-four list (and-parts (noneBeside list) (noneWith list) rest .1))))
+        pick false q = absurd (l .off q (settled-runs h) (rw same (with-four list (and-parts (noneBeside list) (noneWith list) rest .1))))
 
     pub tested : Tested list places r
     tested = record { answer = bool-ext r (isSettled list) forth back; in-order = λ h. sorted; runs = λ h. l .fine h .0 }

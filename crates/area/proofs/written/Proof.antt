@@ -1,5 +1,6 @@
 -- `written` fills the memory with what is left, and makes the list of it.
 use mathlib.Core.Path.{sym}
+use native.Mathlib.Omega.{arith}
 use Rattle.area.specs.Ends.{front-length, front-parted, left-all, left-numbers, left-listed}
 use borrow.Author.Needs.{needs}
 use Rattle.area.proofs.written.Statement.{statement}
@@ -25,7 +26,7 @@ finish-requires : tie.Need-finish-requires
 finish-requires c κs =
     let s = c .before .before .before .before .before .before .before .before .before .before .before in
     let m = c .before .before .before .before .remain .ensures in
-    (left-all (s .args .a .now) (s .args .b .now) (s .args .keys .now) (s .pre .0) _ _ _ m (s .pre .1) .1, left-numbers (s .args .a .now) (s .args .b .now) (s .args .keys .now) (s .pre .0) _ _ _ m (s .pre .1))
+    (left-all (s .args .a .now) (s .args .b .now) (s .args .keys .now) (s .pre .0) _ _ _ m (omega (arith, s .pre .1)) .1, left-numbers (s .args .a .now) (s .args .b .now) (s .args .keys .now) (s .pre .0) _ _ _ m (omega (arith, s .pre .1)))
 
 same-length : tie.Need-same-length
 same-length c = search needs
@@ -36,7 +37,7 @@ same-length-2 c = search needs
 returns : tie.Need-returns
 returns c =
     let s = c .before .before .before .before .before .before .before .before .before .before .before .before .before .before .before .before in
-    left-listed (s .args .a .now) (s .args .b .now) (s .args .keys .now) (s .pre .0) _ _ _ (c .before .before .before .before .before .before .before .before .before .remain .ensures) (s .pre .1) (c .before .before .before .before .finish .ensures)
+    left-listed (s .args .a .now) (s .args .b .now) (s .args .keys .now) (s .pre .0) _ _ _ (c .before .before .before .before .before .before .before .before .before .remain .ensures) (omega (arith, s .pre .1)) (c .before .before .before .before .finish .ensures)
 
 pub written-spec : {M : Type 1} → statement M
 written-spec =
