@@ -1,45 +1,14 @@
 //! Degree boxes, of numbers from a table that changes from call to call.
 use utiles_core::{BBox, LngLat};
 
+use crate::ffi::*;
 use crate::memory::value;
 use crate::places::{Places, any, near};
 use crate::sample::Random;
 use crate::tally::Tally;
 
-unsafe extern "C" {
-    safe fn nori_bbox_crosses_antimeridian(west: f64, south: f64, east: f64, north: f64, told: &mut u8) -> u8;
-    safe fn nori_bbox_is_antimeridian(west: f64, south: f64, east: f64, north: f64, told: &mut u8) -> u8;
-    safe fn nori_bbox_contains_lnglat(
-        west: f64,
-        south: f64,
-        east: f64,
-        north: f64,
-        lng: f64,
-        lat: f64,
-        told: &mut u8,
-    ) -> u8;
-    safe fn nori_bbox_bboxes(
-        west: f64,
-        south: f64,
-        east: f64,
-        north: f64,
-        count: &mut u8,
-        w1: &mut f64,
-        s1: &mut f64,
-        e1: &mut f64,
-        n1: &mut f64,
-        w2: &mut f64,
-        s2: &mut f64,
-        e2: &mut f64,
-        n2: &mut f64,
-    ) -> u8;
-}
-
 macro_rules! of_two {
     ($($name:ident $ours:ident),*) => {
-        unsafe extern "C" {
-            $(safe fn $ours(w: f64, s: f64, e: f64, n: f64, w2: f64, s2: f64, e2: f64, n2: f64, told: &mut u8) -> u8;)*
-        }
         const OF_TWO: [(&str, OfTwo, fn(&BBox, &BBox) -> bool); 3] = [$((stringify!($name), $ours, BBox::$name)),*];
     };
 }

@@ -1,31 +1,12 @@
 //! Levels, relatives, neighbours and numbers of tiles.
 use utiles_core::{self as rust, Tile};
 
+use crate::ffi::*;
 use crate::inputs;
 use crate::memory::{junk, lend, placed, value, written};
 use crate::paper::{self, DEEPEST, RMID_END};
 use crate::sample::{Random, Xyz};
 use crate::tally::Tally;
-
-unsafe extern "C" {
-    safe fn nori_minmax(zoom: u8, min: &mut u32, max: &mut u32) -> u8;
-    safe fn nori_valid(x: u32, y: u32, z: u8, told: &mut u8) -> u8;
-    safe fn nori_flipy(y: u32, z: u8, row: &mut u32) -> u8;
-    safe fn nori_yflip(y: u32, z: u8, row: &mut u32) -> u8;
-    safe fn nori_parent(x: u32, y: u32, z: u8, n: u8, tx: &mut u32, ty: &mut u32, tz: &mut u8) -> u8;
-    fn nori_children(x: u32, y: u32, z: u8, zoom: u8, out: *mut u64, places: usize, count: &mut u64) -> u8;
-    fn nori_children_zorder(x: u32, y: u32, z: u8, zoom: u8, out: *mut u64, places: usize, count: &mut u64) -> u8;
-    fn nori_children1_zorder(x: u32, y: u32, z: u8, out: *mut u64, places: usize, count: &mut u64) -> u8;
-    fn nori_siblings(x: u32, y: u32, z: u8, out: *mut u64, places: usize, count: &mut u64) -> u8;
-    fn nori_neighbors(x: u32, y: u32, z: u8, out: *mut u64, places: usize, count: &mut u64) -> u8;
-    fn nori_neighbors_wrap_x(x: u32, y: u32, z: u8, out: *mut u64, places: usize, count: &mut u64) -> u8;
-    safe fn nori_bbox2zoom(west: u32, south: u32, east: u32, north: u32, zoom: &mut u8) -> u8;
-    safe fn nori_to_id(x: u32, y: u32, z: u8, id: &mut u64) -> u8;
-    safe fn nori_from_id(id: u64, tx: &mut u32, ty: &mut u32, tz: &mut u8) -> u8;
-    safe fn nori_xyz2rmid(x: u32, y: u32, z: u8, rmid: &mut u64) -> u8;
-    safe fn nori_rmid2xyz(rmid: u64, tx: &mut u32, ty: &mut u32, tz: &mut u8) -> u8;
-    safe fn nori_int_2_offset_zoom(rmid: u64, offset: &mut u64, zoom: &mut u8) -> u8;
-}
 
 /// A call that writes a list of tiles, of which nothing but the tile is asked.
 type List = unsafe extern "C" fn(u32, u32, u8, *mut u64, usize, &mut u64) -> u8;

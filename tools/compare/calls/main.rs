@@ -14,6 +14,9 @@ mod tile;
 mod tile_zbox;
 mod zoom;
 
+#[allow(dead_code)]
+#[path = "../../../bindings/rust/src/ffi.rs"]
+mod ffi;
 #[path = "../../oracle/generator/lists.rs"]
 mod lists;
 #[path = "../../oracle/generator/paper.rs"]

@@ -4,26 +4,13 @@ use std::collections::HashSet;
 use utiles_core::merge as rust;
 use utiles_core::{Tile, from_id, to_id};
 
+use crate::ffi::*;
 use crate::inputs;
 use crate::lists::{ancestors, level, shuffled, under};
 use crate::memory::{Lent, junk, lend};
 use crate::paper::DEEPEST;
 use crate::sample::Random;
 use crate::tally::Tally;
-
-unsafe extern "C" {
-    fn nori_merge(
-        list: *const u64,
-        n: usize,
-        m: u8,
-        out: *mut u64,
-        places: usize,
-        count: &mut u64,
-        changed: &mut u8,
-    ) -> u8;
-    fn nori_simplify_v1(list: *const u64, n: usize, m: u8, out: *mut u64, places: usize, count: &mut u64) -> u8;
-    fn nori_simplify(list: *const u64, n: usize, m: u8, out: *mut u64, places: usize, count: &mut u64) -> u8;
-}
 
 type Settling = unsafe extern "C" fn(*const u64, usize, u8, *mut u64, usize, &mut u64) -> u8;
 

@@ -1,27 +1,10 @@
 //! The cursor over a tile's ancestors, run to its end.
 use utiles_core::{Tile, TileParent};
 
+use crate::ffi::*;
 use crate::inputs;
 use crate::sample::{Random, Xyz};
 use crate::tally::Tally;
-
-unsafe extern "C" {
-    safe fn nori_iter_parents(x: u32, y: u32, z: u8, count: &mut u8, tx: &mut u32, ty: &mut u32, tz: &mut u8) -> u8;
-    safe fn nori_parents_next(
-        held: u8,
-        x: u32,
-        y: u32,
-        z: u8,
-        count: &mut u8,
-        tx: &mut u32,
-        ty: &mut u32,
-        tz: &mut u8,
-        rest: &mut u8,
-        rx: &mut u32,
-        ry: &mut u32,
-        rz: &mut u8,
-    ) -> u8;
-}
 
 /// What a cursor holds: how many tiles, 0 or 1, and that tile.
 type Held = (u8, Xyz);

@@ -1,20 +1,12 @@
 //! Keys: from tile to key, from key to tile, and turned over. The Rust takes text, so every key is UTF-8.
 use utiles_core::{self as rust, QuadkeyError};
 
+use crate::ffi::*;
 use crate::inputs;
 use crate::memory::{Placed, junk, lend, placed, refused, value, written};
 use crate::paper::DEEPEST;
 use crate::sample::Random;
 use crate::tally::Tally;
-
-unsafe extern "C" {
-    fn nori_xyz2quadkey(x: u32, y: u32, z: u8, out: *mut u8, places: usize, count: &mut u64) -> u8;
-    fn nori_xyz2quadkey_vec(x: u32, y: u32, z: u8, out: *mut u8, places: usize, count: &mut u64) -> u8;
-    fn nori_quadkey2xyz(key: *const u8, n: usize, x: &mut u32, y: &mut u32, z: &mut u8) -> u8;
-    fn nori_is_quadkey(key: *const u8, n: usize, told: &mut u8) -> u8;
-    safe fn nori_is_quadkey_byte(b: u8, told: &mut u8) -> u8;
-    fn nori_quadkey_flipy(key: *const u8, n: usize, out: *mut u8, places: usize, count: &mut u64) -> u8;
-}
 
 pub fn compare(tally: &mut Tally, random: &mut Random) {
     of_tile(tally, random);

@@ -1,14 +1,11 @@
 //! The relation is of any two numbers and is never refused.
 use utiles_core::sibling_relationship::SiblingRelationship;
 
+use crate::ffi::*;
 use crate::inputs;
 use crate::memory::value;
 use crate::sample::Random;
 use crate::tally::Tally;
-
-unsafe extern "C" {
-    safe fn nori_sibling_relationship(x: u32, y: u32, relation: &mut u8) -> u8;
-}
 
 pub fn compare(tally: &mut Tally, random: &mut Random) {
     let (x, y) = (inputs::word(random), inputs::word(random));

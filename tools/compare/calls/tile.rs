@@ -1,6 +1,7 @@
 //! Making, ordering and stepping.
 use utiles_core::Tile;
 
+use crate::ffi::*;
 use crate::inputs;
 use crate::memory::{placed, value};
 use crate::paper;
@@ -11,9 +12,6 @@ type Step = extern "C" fn(u32, u32, u8, &mut u32, &mut u32, &mut u8) -> u8;
 
 macro_rules! steps {
     ($($name:ident $ours:ident $across:literal $along:literal),*) => {
-        unsafe extern "C" {
-            $(safe fn $ours(x: u32, y: u32, z: u8, tx: &mut u32, ty: &mut u32, tz: &mut u8) -> u8;)*
-        }
         // The Rust's names: `up` and `down` move x. What each does to x and y is needed to see where it leaves the map.
         const STEPS: [(&str, i64, i64, fn(&Tile) -> Tile, Step); 8] =
             [$((stringify!($name), $across, $along, Tile::$name, $ours)),*];
@@ -21,12 +19,6 @@ macro_rules! steps {
 }
 steps!(up nori_up 1 0, down nori_down -1 0, left nori_left 0 -1, right nori_right 0 1, up_left nori_up_left 1 -1,
     up_right nori_up_right 1 1, down_left nori_down_left -1 -1, down_right nori_down_right -1 1);
-
-unsafe extern "C" {
-    safe fn nori_try_new(x: u32, y: u32, z: u8, tx: &mut u32, ty: &mut u32, tz: &mut u8) -> u8;
-    safe fn nori_flip(x: u32, y: u32, z: u8, tx: &mut u32, ty: &mut u32, tz: &mut u8) -> u8;
-    safe fn nori_cmp(ax: u32, ay: u32, az: u8, bx: u32, by: u32, bz: u8, order: &mut u8) -> u8;
-}
 
 fn made((x, y, z): Xyz) -> Tile {
     Tile::new_unchecked(x, y, z)

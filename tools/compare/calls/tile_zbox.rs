@@ -2,69 +2,12 @@
 use utiles_core::tile_zbox::{TileZBox, TileZBoxes};
 use utiles_core::{Tile, from_id, to_id};
 
+use crate::ffi::*;
 use crate::inputs;
 use crate::memory::{junk, lend, value};
 use crate::paper::{self, DEEPEST, MOST_BOXES};
 use crate::sample::{Random, Xyz, Zbox};
 use crate::tally::Tally;
-
-macro_rules! of_a_box {
-    ($($name:ident($($value:ident: $type:ty),*);)*) => {
-        unsafe extern "C" {
-            $(safe fn $name(zoom: u8, minx: u32, maxx: u32, miny: u32, maxy: u32, $($value: $type),*) -> u8;)*
-        }
-    };
-}
-of_a_box! {
-    nori_zbox_contains_tile(x: u32, y: u32, z: u8, told: &mut u8);
-    nori_zbox_flipy(bz: &mut u8, left: &mut u32, right: &mut u32, top: &mut u32, bottom: &mut u32);
-    nori_zbox_zoom_in(bz: &mut u8, left: &mut u32, right: &mut u32, top: &mut u32, bottom: &mut u32);
-    nori_zbox_zoom_depth(depth: u8, bz: &mut u8, left: &mut u32, right: &mut u32, top: &mut u32, bottom: &mut u32);
-    nori_zbox_length(length: &mut u64);
-    nori_zbox_size(length: &mut u64);
-    nori_zbox_dx(across: &mut u32);
-    nori_zbox_dy(down: &mut u32);
-    nori_zbox_width(across: &mut u32);
-    nori_zbox_height(down: &mut u32);
-    nori_zbox_dxdy(across: &mut u32, down: &mut u32);
-    nori_zbox_dimensions(across: &mut u32, down: &mut u32);
-    nori_zbox_next(before: u64, count: &mut u8, tx: &mut u32, ty: &mut u32, tz: &mut u8, after: &mut u64);
-}
-unsafe extern "C" {
-    safe fn nori_zbox_new(
-        minx: u32,
-        maxx: u32,
-        miny: u32,
-        maxy: u32,
-        zoom: u8,
-        bz: &mut u8,
-        left: &mut u32,
-        right: &mut u32,
-        top: &mut u32,
-        bottom: &mut u32,
-    ) -> u8;
-    safe fn nori_zbox_from_tile(
-        x: u32,
-        y: u32,
-        z: u8,
-        bz: &mut u8,
-        left: &mut u32,
-        right: &mut u32,
-        top: &mut u32,
-        bottom: &mut u32,
-    ) -> u8;
-    fn nori_zbox_from_tiles(
-        list: *const u64,
-        n: usize,
-        bz: &mut u8,
-        left: &mut u32,
-        right: &mut u32,
-        top: &mut u32,
-        bottom: &mut u32,
-    ) -> u8;
-    fn nori_zboxes_length(boxes: *const u32, n: usize, length: &mut u64) -> u8;
-    fn nori_zboxes_flipy(boxes: *const u32, n: usize, out: *mut u32, places: usize, count: &mut u64) -> u8;
-}
 
 /// A number of a box, given the box.
 type OfBox<T> = extern "C" fn(u8, u32, u32, u32, u32, &mut T) -> u8;

@@ -1,32 +1,12 @@
 //! Zoom sets and lists.
 use utiles_core::zoom::{self as rust, ZoomOrZooms, ZoomRange, ZoomSet};
 
+use crate::ffi::*;
 use crate::inputs;
 use crate::memory::{Lent, junk, lend, value, written};
 use crate::paper::DEEPEST_IN_LIST;
 use crate::sample::Random;
 use crate::tally::Tally;
-
-unsafe extern "C" {
-    safe fn nori_zoom_max_xy(zoom: u8, max: &mut u32) -> u8;
-    fn nori_zset2zvec(zset: u32, out: *mut u8, places: usize, count: &mut u64) -> u8;
-    fn nori_zset2zvec_rev(zset: u32, out: *mut u8, places: usize, count: &mut u64) -> u8;
-    fn nori_zvec2zset(zvec: *const u8, n: usize, zset: &mut u32) -> u8;
-    fn nori_zvec2zset_rev(zvec: *const u8, n: usize, zset: &mut u32) -> u8;
-    fn nori_zoom_ranges(
-        zset: u32,
-        lows: *mut u8,
-        low_places: usize,
-        highs: *mut u8,
-        high_places: usize,
-        count: &mut u64,
-    ) -> u8;
-    safe fn nori_zset_from_zoom(zoom: u8, zset: &mut u32) -> u8;
-    safe fn nori_zoom_set(min: u8, max: u8, zset: &mut u32) -> u8;
-    safe fn nori_zoom_bit_rev(zoom: u8, bit: &mut u32) -> u8;
-    safe fn nori_zset_and(a: u32, b: u32, zset: &mut u32) -> u8;
-    safe fn nori_zset_and_zoom(a: u32, zoom: u8, zset: &mut u32) -> u8;
-}
 
 /// The zooms of a list or set, and the most runs that they make.
 const ZOOMS: usize = DEEPEST_IN_LIST as usize + 1;

@@ -1,0 +1,26 @@
+-- `u64_number` hands on a number or a refusal's number.
+use borrow.Author.Needs.{needs}
+use Rattle.noripliers.proofs.give.u64_number.Statement.{statement}
+use Rattle.noripliers.proofs.give.u64_number.Tie as tie
+use Rattle.noripliers.proofs.give.u64_number.Reads as reads
+use Rattle.noripliers.proofs.give.u64_number.Lts as lts
+use Rattle.errors.proofs.number.Reads as number-reads
+
+enum-known-answer : tie.Need-enum-known-answer
+enum-known-answer c = search needs
+
+enum-known-answer-2 : tie.Need-enum-known-answer-2
+enum-known-answer-2 c = search needs
+
+number-requires : tie.Need-number-requires
+number-requires c κs = search needs
+
+returns : tie.Need-returns
+returns c = rw (c .before .answer .given .1)
+
+returns-2 : tie.Need-returns-2
+returns-2 c = rw (c .number .ensures, c .before .before .answer2 .given .1)
+
+pub u64-number-spec : {M : Type 1} → statement M
+u64-number-spec =
+    tie.close (tie.spec enum-known-answer enum-known-answer-2 number-requires returns returns-2)

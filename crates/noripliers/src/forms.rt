@@ -1,0 +1,84 @@
+// Form lines, which the Rust does not have: what the program areas reads and prints. A form is (tiles K K ..), which settles
+// the tiles of keys, - for the root's, or (plus F F), (both F F) or (minus F F) of two forms. A line is without its newline.
+use crate::give;
+use form_stream::KEPT;
+ghost use mathlib.Core.Path.{_≡_};
+ghost use mathlib.Core.List.{[]};
+ghost use lib.ListN.{take};
+ghost use Rattle.errors.specs.Answer.{written};
+ghost use Rattle.form.specs.Reading.{lineRefusal};
+ghost use Rattle.form_area.specs.Area.{areaWritten};
+ghost use Rattle.form_line.specs.Line.{lineWritten};
+ghost use Rattle.form_stream.specs.Feeding.{Feeds};
+ghost use Rattle.form_stream.specs.Stream.{said};
+ghost use Rattle.noripliers.specs.Exported.{fedAt, given};
+
+// Whether a line is refused before any key is read: nothing but the number comes back.
+// Refused: 13, 14, 15.
+#[no_mangle]
+pub extern "C" fn nori_form_check(line: &[u8]) -> u8
+    ensures { λ r. ⌜ r ≡ lineRefusal (now (line .entry)) ⌝ }
+{
+    give::check(form::check(line))
+}
+
+// The settled list of a line's form. Each list on the way has NORI_FORM_PLACES places, and out may have any number. 13, 14 and 15
+// come before the others, and of those the first from the left.
+// Refused: 4, 5, 12, 13, 14, 15.
+#[no_mangle]
+pub extern "C" fn nori_form_area(line: &[u8], out: &mut [u64], count: &mut u64) -> u8
+    ensures { λ r. ⌜ given r (now (count .exit)) (now (out .exit)) ≡ areaWritten (now (line .entry)) (now (out .entry)) ⌝ }
+{
+    let answer = form_area::area(line, out);
+    give::count(answer, count)
+}
+
+// What is printed for a line, without a newline: the count and the keys of its area, as (2 3 01), or its refusal, as
+// (refused 15).
+// Refused: 12.
+#[no_mangle]
+pub extern "C" fn nori_form_answer(line: &[u8], out: &mut [u8], count: &mut u64) -> u8
+    ensures { λ r. ⌜ given r (now (count .exit)) (now (out .exit)) ≡ lineWritten (now (line .entry)) (now (out .entry)) ⌝ }
+{
+    let answer = form_line::answer(line, out);
+    give::count(answer, count)
+}
+
+// Takes in a chunk of the input behind a line of which line holds len bytes, 0 at first, and writes the answers of the lines that
+// end in it, each with its newline. next bytes of the chunk are taken in, line holds kept bytes of the line so far, and filled
+// bytes are written. For want of room it may take in less than the chunk, but some of it where out has 32 * NORI_FORM_PLACES
+// places.
+// Never refused.
+#[no_mangle]
+pub extern "C" fn nori_form_feed(
+    chunk: &[u8],
+    line: &mut [u8; KEPT],
+    len: usize,
+    out: &mut [u8],
+    next: &mut u64,
+    kept: &mut u64,
+    filled: &mut u64,
+) -> u8
+    ensures { λ r. ⌜ (r ≡ 0) × Feeds (now (out .entry)) (now (chunk .entry)) (now (line .entry)) len (now (line .exit)) (now (out .exit)) (fedAt (now (next .exit)) (now (kept .exit)) (now (filled .exit))) ⌝ }
+{
+    let fed = form_stream::feed(chunk, line, len, out);
+    *next = fed.next as u64;
+    *kept = fed.len as u64;
+    *filled = fed.filled as u64;
+    0
+}
+
+// The end of the input: the answer of a last line without newline, of which line holds len bytes. Where len is 0 there is none.
+// Refused: 12.
+#[no_mangle]
+pub extern "C" fn nori_form_finish(
+    line: &[u8; KEPT],
+    len: usize,
+    out: &mut [u8],
+    count: &mut u64,
+) -> u8
+    ensures { λ r. ⌜ given r (now (count .exit)) (now (out .exit)) ≡ written 0 (said (take len (now (line .entry))) []) (now (out .entry)) ⌝ }
+{
+    let answer = form_stream::finish(line, len, out);
+    give::count(answer, count)
+}
