@@ -1,0 +1,87 @@
+/* Calls functions of every shape from C: values, keys, lists, two lists, lent memory, boxes of degrees, cursors and chunks. */
+#include "noripliers.h"
+#include <stdio.h>
+#include <string.h>
+
+static int failures = 0;
+
+static void expect(int holds, const char *what)
+{
+    if (!holds) {
+        fprintf(stderr, "not so: %s\n", what);
+        failures++;
+    }
+}
+
+#define EXPECT(condition) expect(condition, #condition)
+
+static void tiles(void)
+{
+    uint32_t x = 9, y = 9;
+    uint8_t z = 9, order = 9;
+    EXPECT(nori_parent(3, 5, 3, 0, &x, &y, &z) == 0 && x == 1 && y == 2 && z == 2);
+    EXPECT(nori_parent(3, 5, 3, 3, &x, &y, &z) == NORI_NO_RELATIVE && x == 0 && y == 0 && z == 0);
+    EXPECT(nori_check(8, 0, 3) == NORI_OFF_MAP);
+    EXPECT(nori_cmp(3, 5, 3, 3, 6, 3, &order) == 0 && order == 0);
+}
+
+static void keys(void)
+{
+    static const uint8_t key[] = {'2', '1', '3'}, none[1];
+    uint8_t out[5] = {9, 9, 9, 9, 9};
+    uint64_t count = 9;
+    uint32_t x = 9, y = 9;
+    uint8_t z = 9;
+    EXPECT(nori_quadkey2xyz(key, 3, &x, &y, &z) == 0 && x == 3 && y == 5 && z == 3);
+    EXPECT(nori_quadkey2xyz(none, 0, &x, &y, &z) == 0 && x == 0 && y == 0 && z == 0);
+    EXPECT(nori_xyz2quadkey(3, 5, 3, out, 2, &count) == NORI_MEMORY && count == 0 && out[0] == 9);
+    EXPECT(nori_xyz2quadkey(3, 5, 3, out, 5, &count) == 0 && count == 3 && memcmp(out, key, 3) == 0 && out[3] == 9);
+    EXPECT(nori_ancestor_key(key, 3, 2, &count) == 0 && count == 2);
+}
+
+static void lists(void)
+{
+    uint64_t four[4], out[6] = {9, 9, 9, 9, 9, 9}, root[1], count = 9;
+    uint8_t changed = 9, settled = 9;
+    EXPECT(nori_entry(0, 0, 0, root) == 0);
+    EXPECT(nori_children(0, 0, 0, 1, four, 4, &count) == 0 && count == 4);
+    EXPECT(nori_merge(four, 4, 0, out, 6, &count, &changed) == 0 && count == 1 && changed == 1);
+    EXPECT(out[0] == root[0] && out[1] == 0 && out[3] == 0 && out[4] == 9);
+    EXPECT(nori_is_settled(four, 4, &settled) == 0 && settled == 0);
+    EXPECT(nori_difference(root, 1, four, 1, out, 6, &count) == 0 && count == 3);
+    EXPECT(nori_union(root, 1, four, 4, out, 6, &count) == NORI_NOT_SETTLED && count == 0);
+}
+
+static void boxes_and_zooms(void)
+{
+    uint64_t length = 9, after = 9;
+    uint32_t zset = 9, x = 9, y = 9;
+    uint8_t zooms[] = {0, 1, 2, 4}, lows[2], highs[2], count = 9, z = 9, told = 9;
+    uint64_t ranges = 9;
+    EXPECT(nori_zbox_length(16, 0, 65535, 0, 65535, &length) == 0 && length == 4294967296u);
+    EXPECT(nori_zbox_next(3, 1, 3, 5, 6, 5, &count, &x, &y, &z, &after) == 0 && count == 1 && x == 3 && y == 6 && after == 6);
+    EXPECT(nori_zbox_next(3, 1, 3, 5, 6, 7, &count, &x, &y, &z, &after) == NORI_NO_BOX && count == 0);
+    EXPECT(nori_zvec2zset(zooms, 4, &zset) == 0 && zset == 23);
+    EXPECT(nori_zoom_ranges(zset, lows, 2, highs, 2, &ranges) == 0 && ranges == 2 && lows[1] == 4 && highs[0] == 2);
+    EXPECT(nori_bbox_contains_lnglat(170.0, -5.0, -170.0, 5.0, 175.0, 0.0, &told) == 0 && told == 1);
+}
+
+static void lines(void)
+{
+    static const char text[] = "(tiles 00 01 02 03)\n(tiles 4";
+    uint8_t line[NORI_KEPT], out[32 * NORI_FORM_PLACES];
+    uint64_t next = 9, kept = 9, filled = 9, count = 9;
+    EXPECT(nori_form_feed((const uint8_t *)text, sizeof text - 1, line, 0, out, sizeof out, &next, &kept, &filled) == 0);
+    EXPECT(next == sizeof text - 1 && kept == 8 && filled == 6 && memcmp(out, "(1 0)\n", 6) == 0);
+    EXPECT(nori_form_finish(line, kept, out, sizeof out, &count) == 0 && count == 13 && memcmp(out, "(refused 15)\n", 13) == 0);
+}
+
+int main(void)
+{
+    tiles();
+    keys();
+    lists();
+    boxes_and_zooms();
+    lines();
+    return failures == 0 ? 0 : 1;
+}
