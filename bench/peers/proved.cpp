@@ -1,0 +1,89 @@
+// Times the proved library on the workloads, through its C header.
+#include "../../bindings/c/noripliers.h"
+#include "calls.hpp"
+
+static List out(8 << 20);
+
+// No call of the benchmark may be refused.
+static u64 counted(u8 refused, u64 count) {
+  if (refused) {
+    fprintf(stderr, "unexpected refusal %d\n", refused);
+    exit(1);
+  }
+  return count;
+}
+
+struct ProvedCalls {
+  u64 to_id(Tile t) {
+    u64 id;
+    nori_to_id(t.x, t.y, t.z, &id);
+    return id;
+  }
+  Tile from_id(u64 id) {
+    Tile t;
+    nori_from_id(id, &t.x, &t.y, &t.z);
+    return t;
+  }
+  u64 xyz2rmid(Tile t) {
+    u64 r;
+    nori_xyz2rmid(t.x, t.y, t.z, &r);
+    return r;
+  }
+  Tile rmid2xyz(u64 r) {
+    Tile t;
+    nori_rmid2xyz(r, &t.x, &t.y, &t.z);
+    return t;
+  }
+  Tile quadkey2xyz(const char* s, size_t n) {
+    Tile t;
+    nori_quadkey2xyz((const u8*)s, n, &t.x, &t.y, &t.z);
+    return t;
+  }
+  size_t xyz2quadkey(Tile t, char* o) {
+    u64 n;
+    u8 r = nori_xyz2quadkey(t.x, t.y, t.z, (u8*)o, NORI_MAX_ZOOM, &n);
+    return counted(r, n);
+  }
+  Tile parent(Tile t, u32 n) {
+    Tile p;
+    return nori_parent(t.x, t.y, t.z, n, &p.x, &p.y, &p.z) ? NO_TILE : p;
+  }
+  size_t neighbors(Tile t, u64* o) {
+    u64 n;
+    u8 r = nori_neighbors(t.x, t.y, t.z, o, 8, &n);
+    return counted(r, n);
+  }
+  size_t children(Tile t, u32 to, u64* o) {
+    u64 n;
+    u8 r = nori_children(t.x, t.y, t.z, to, o, 1 << 14, &n);
+    return counted(r, n);
+  }
+};
+
+// An operation on the lists of a job, given the index of the list and the memory lent.
+template <class Call>
+static void run(const Job& j, const char* op, Call call) {
+  run_list("proved", j, op, "list", out.data(), [&](size_t i, u64* o) {
+    u64 n;
+    u8 r = call(i, o, &n);
+    return counted(r, n);
+  });
+}
+
+int main(int argc, char** argv) {
+  for (const Job& j : load_jobs(argc > 1 ? argv[1] : ".")) {
+    size_t places = out.size();
+    if (j.kind == "settle") {
+      run(j, "settle", [&](size_t i, u64* o, u64* n) { return nori_simplify(j.a(i), j.na, 0, o, places, n); });
+      run(j, "settle_v1", [&](size_t i, u64* o, u64* n) { return nori_simplify_v1(j.a(i), j.na, 0, o, places, n); });
+      u8 changed;
+      run(j, "merge", [&](size_t i, u64* o, u64* n) { return nori_merge(j.a(i), j.na, 0, o, places, n, &changed); });
+    } else if (j.kind == "area") {
+      run(j, "union", [&](size_t i, u64* o, u64* n) { return nori_union(j.a(i), j.na, j.b(i), j.nb, o, places, n); });
+      run(j, "common", [&](size_t i, u64* o, u64* n) { return nori_common_part(j.a(i), j.na, j.b(i), j.nb, o, places, n); });
+      run(j, "minus", [&](size_t i, u64* o, u64* n) { return nori_difference(j.a(i), j.na, j.b(i), j.nb, o, places, n); });
+    } else {
+      time_calls("proved", j, ProvedCalls{});
+    }
+  }
+}
