@@ -1,45 +1,36 @@
-//! `subtract PLAN LAKE` subtracts one area file from another and prints the quadkeys that are left,
-//! one a line, in list order. An area file has a quadkey on each line, in any order; `-` is the
-//! root's.
-use std::process::ExitCode;
-use std::{env, fs};
-
+//! `subtract PLAN LAKE` prints the quadkeys of one area file without another's, one a line, in
+//! list order. An area file has a quadkey on each line, in any order; `-` is the root's.
 use noripliers::{Area, Tile};
+use std::{env, fs, process};
 
 fn read_area(path: &str) -> Result<Area, String> {
     let text = fs::read(path).map_err(|error| format!("{path}: {error}"))?;
     let mut tiles = Vec::new();
     for (line, key) in (1..).zip(text.split(|&byte| byte == b'\n')) {
-        match key {
-            b"" => {}
-            b"-" => tiles.push(Tile::root()),
-            key => tiles
-                .push(Tile::from_quadkey(key).map_err(|error| format!("{path}:{line}: {error}"))?),
-        }
+        let tile = match key {
+            b"" => continue,
+            b"-" => Ok(Tile::root()),
+            key => Tile::from_quadkey(key),
+        };
+        tiles.push(tile.map_err(|error| format!("{path}:{line}: {error}"))?);
     }
     Area::settle(&tiles).map_err(|error| format!("{path}: {error}"))
 }
 
-fn left(words: &[String]) -> Result<Area, String> {
-    let [plan, lake] = words else {
+fn subtract(words: &[String]) -> Result<Area, String> {
+    let [_, plan, lake] = words else {
         return Err("usage: subtract PLAN LAKE".to_owned());
     };
-    read_area(plan)?
-        .difference(&read_area(lake)?)
-        .map_err(|error| error.to_string())
+    let (plan, lake) = (read_area(plan)?, read_area(lake)?);
+    plan.difference(&lake).map_err(|error| error.to_string())
 }
 
-fn main() -> ExitCode {
-    match left(&env::args().skip(1).collect::<Vec<_>>()) {
-        Ok(area) => {
-            area.quadkeys()
-                .iter()
-                .for_each(|key| println!("{}", if key.is_empty() { "-" } else { key }));
-            ExitCode::SUCCESS
-        }
-        Err(message) => {
-            eprintln!("{message}");
-            ExitCode::FAILURE
-        }
+fn main() {
+    let left = subtract(&env::args().collect::<Vec<_>>()).unwrap_or_else(|message| {
+        eprintln!("{message}");
+        process::exit(1)
+    });
+    for key in left.quadkeys() {
+        println!("{}", if key.is_empty() { "-" } else { &key });
     }
 }
