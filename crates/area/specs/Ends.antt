@@ -159,7 +159,7 @@ module _ (a b keys : List ℕ) (r : Ready a b keys) where
     pub left-rest : drop n after ≡ drop n before
     left-rest = rw left-first (drop-at (map placeOf tiles-left) (drop (length (map placeOf tiles-left)) before) n left-many ∙ ap (λ (i : ℕ). drop i before) left-many)
 
-    pub left-numbers : TileNumbers placeOf (take n after)
+    left-numbers : TileNumbers placeOf (take n after)
     left-numbers = rw (left-all .0) (runs-numbers (map placeOf tiles-left) (without-runs (placesOf a) (placesOf b) (r .in-runs .first)))
 
     -- where what is left is lent on by itself
@@ -168,9 +168,6 @@ module _ (a b keys : List ℕ) (r : Ready a b keys) where
 
     pub part-listed : {memory : List ℕ} {count : ℕ} → Listed (named placeTile (take n (take n after))) memory count → Listed (leftSet a b) memory count
     part-listed {memory} {count} = subst (λ (l : List ℕ). Listed (named placeTile l) memory count) (left-twice ∙ left-all .0)
-
-    pub left-listed : {memory : List ℕ} {count : ℕ} → Listed (named placeTile (take n after)) memory count → Listed (leftSet a b) memory count
-    left-listed {memory} {count} = subst (λ (l : List ℕ). Listed (named placeTile l) memory count) (left-all .0)
 
 -- the ends of a call on lists that have passed the tests
 module _ (a b keys memory : List ℕ) (r : Ready a b keys) where
@@ -212,7 +209,7 @@ module _ (a b keys memory : List ℕ) (r : Ready a b keys) where
   pub difference-short : length memory < length remains → left (count.Refused Memory) memory ≡ differenceOf a b memory
   difference-short h = written-short (differenceEntries a b) memory accepted (omega (arith, left-count))
 
-  pub difference-done : (after : List ℕ) (n : ℕ) → length remains ≤ length memory → length after ≡ length remains
+  difference-done : (after : List ℕ) (n : ℕ) → length remains ≤ length memory → length after ≡ length remains
       → Listed (leftSet a b) after n → left (count.Counted n) (after ++ drop (length remains) memory) ≡ differenceOf a b memory
   difference-done after n h e l =
       written-done (differenceEntries a b) memory (after ++ drop (length remains) memory) accepted (omega (arith, left-count)) value
@@ -230,23 +227,13 @@ module _ (a b keys memory : List ℕ) (r : Ready a b keys) where
   pub counted-left : {n : ℕ} → n ≡ length (without (take (length a) (front a b keys r)) (drop (length a) (front a b keys r))) → n ≡ length remains
   counted-left e = e ∙ ap length (front-left a b keys r)
 
-  pub remaining-done : (n : ℕ) → n ≡ length (without (take (length a) (front a b keys r)) (drop (length a) (front a b keys r))) → (after : List ℕ) (m : ℕ)
-      → n ≤ length memory → length after ≡ length (take n memory) → Listed (leftSet a b) after m
-      → left (count.Counted m) (after ++ drop n memory) ≡ differenceOf a b memory
-  remaining-done n e after m h k l =
-      let f : n ≡ length remains = counted-left e in
-      ap (λ (i : ℕ). left (count.Counted m) (after ++ drop i memory)) f
-      ∙ difference-done after m (omega (arith, h)) (k ∙ (length-take-le n memory h ∙ f)) l
-
-  pub walked-done : (after : List ℕ) (n : ℕ) → Remains (take (length a) (front a b keys r)) (drop (length a) (front a b keys r)) memory after n
+  pub written-all : (after : List ℕ) (n : ℕ) → Remains (take (length a) (front a b keys r)) (drop (length a) (front a b keys r)) memory after n
       → length remains ≤ length memory → (part : List ℕ) (m : ℕ) → length part ≡ length (take n after) → Listed (named placeTile (take n (take n after))) part m
       → left (count.Counted m) (part ++ drop n after) ≡ differenceOf a b memory
-  walked-done after n w e part m k l =
+  written-all after n w e part m k l =
       let f : n ≡ length remains = counted-left (w .count) in
-      let g : n ≤ length memory = omega arith in
-      ap (λ (rest : List ℕ). left (count.Counted m) (part ++ rest)) (left-rest a b keys r memory after n w e)
-      ∙ remaining-done n (w .count) part m g (k ∙ (length-take-le n after (left-all a b keys r memory after n w e .1) ∙ sym (length-take-le n memory g)))
-      (part-listed a b keys r memory after n w e l)
+      ap (λ (rest : List ℕ). left (count.Counted m) (part ++ rest)) (left-rest a b keys r memory after n w e ∙ ap (λ (i : ℕ). drop i memory) f)
+      ∙ difference-done part m e (k ∙ (length-take-le n after (left-all a b keys r memory after n w e .1) ∙ f)) (part-listed a b keys r memory after n w e l)
 
 -- each work's own promise is what is asked of it
 pub by-work : {work : Work} {answer : Lent ℕ} (a b memory : List ℕ) (w : Work) → work ≡ w → answer ≡ workOf w a b memory → answer ≡ workOf work a b memory

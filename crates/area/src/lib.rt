@@ -213,14 +213,14 @@ fn remaining(a: &[u64], b: &[u64], keys: &mut [u64], out: &mut [u64]) -> Count
 {
     let n = a.len();
     if most_left(n, b.len()) <= out.len() {
-        return Count::Counted(walked(a, b, keys, out));
+        return Count::Counted(written(a, b, keys, out));
     }
     let both = n + b.len();
     let count = counted(&keys[..both], n);
     if out.len() < count {
         return Count::Refused(Refusal::Memory);
     }
-    Count::Counted(written(a, b, keys, &mut out[..count]))
+    Count::Counted(written(a, b, keys, out))
 }
 
 // How many tiles can be left of n when m are taken away.
@@ -229,17 +229,6 @@ fn most_left(n: usize, m: usize) -> usize
     ensures { λ r. ⌜ r ≡ n + 3 * (maxZoom * m) ⌝ }
 {
     n + 3 * (MAX_ZOOM as usize * m)
-}
-
-// What is left goes to memory that has room for all of it, in one walk.
-fn walked(a: &[u64], b: &[u64], keys: &mut [u64], out: &mut [u64]) -> usize
-    requires { ⌜ Ready (now a) (now b) (now keys) × (length (now a) + 3 * (maxZoom * length (now b)) ≤ length (now out)) ⌝ }
-    ensures { λ r. ⌜ left (Counted r) (now (out .exit)) ≡ differenceOf (now (a .entry)) (now (b .entry)) (now (out .entry)) ⌝ }
-{
-    let n = a.len();
-    let both = n + b.len();
-    let count = remain(&keys[..both], n, out);
-    tile_list::finish(&mut out[..count], count, keys, true)
 }
 
 // Where there is no room, the tiles that are left are only counted.
@@ -258,12 +247,13 @@ fn remain(places: &[u64], n: usize, out: &mut [u64]) -> usize
     difference::left(&places[..n], &places[n..], out)
 }
 
+// What is left goes to memory that has room for it, and becomes a list there.
 fn written(a: &[u64], b: &[u64], keys: &mut [u64], out: &mut [u64]) -> usize
-    requires { ⌜ Ready (now a) (now b) (now keys) × (length (now out) ≡ length (without (placesOf (now a)) (placesOf (now b)))) ⌝ }
-    ensures { λ r. ⌜ Listed (leftSet (now (a .entry)) (now (b .entry))) (now (out .exit)) r ⌝ }
+    requires { ⌜ Ready (now a) (now b) (now keys) × (length (without (placesOf (now a)) (placesOf (now b))) ≤ length (now out)) ⌝ }
+    ensures { λ r. ⌜ left (Counted r) (now (out .exit)) ≡ differenceOf (now (a .entry)) (now (b .entry)) (now (out .entry)) ⌝ }
 {
     let n = a.len();
     let both = n + b.len();
     let count = remain(&keys[..both], n, out);
-    tile_list::finish(out, count, keys, true)
+    tile_list::finish(&mut out[..count], count, keys, true)
 }

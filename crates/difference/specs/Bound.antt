@@ -9,11 +9,11 @@ use lib.ListN.{length, getD, length-append, length-map}
 use Rattle.bits.specs.Tests.{anyOf}
 use Rattle.constants.specs.Limits.{maxZoom}
 use Rattle.quadtree.specs.Numbers.{OfMap, placeTile}
-use Rattle.settle.specs.Places.{startOf, endOf, held-run, low-pos}
+use Rattle.settle.specs.Places.{held-run, low-pos}
 use Rattle.settle.specs.Settle.{tiles}
 use Rattle.settled.specs.Runs.{Runs}
 use Rattle.tile.specs.declared.Tile.{Tile}
-use Rattle.tile_set.specs.Holds.{Holds, holds-both, holds-level, holds-trans, child-held}
+use Rattle.tile_set.specs.Holds.{holds-both, holds-level, holds-trans, child-held}
 use Rattle.tile_set.specs.Set.{child}
 use Rattle.difference.specs.Holding.{holds-true, true-holds}
 use Rattle.difference.specs.Left.{holds, ofFour, leftOf, leftOfAll, without}

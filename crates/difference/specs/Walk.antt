@@ -1,13 +1,13 @@
 -- The walk along the quadtree: how far it has come, and what it writes on the way.
 use mathlib.Core.Path.{_≡_, refl, sym, ap, _∙_}
 use mathlib.Core.Bool.{Bool, true, false}
-use mathlib.Core.List.{List, [], _∷_, _++_, map, map-append, append-nil}
+use mathlib.Core.List.{List, [], _∷_, _++_, map, map-append}
 use Prim.Native.Nat.{ℕ, suc, _+_, _-_, _*_, _≤_, _<_}
 use native.Mathlib.Nat.{add-zero}
 use native.Mathlib.Decide.{decLt}
 use native.Mathlib.Omega.{arith}
 use lib.ListN.{length, drop, set, length-append, length-map}
-use lib.Seq.{sets, sets-eq, drop-length}
+use lib.Seq.{sets, sets-eq}
 use Rattle.constants.specs.Limits.{maxZoom}
 use Rattle.quadtree.specs.Numbers.{placeOf, placeTile}
 use Rattle.settle.specs.Places.{lowOf, startOf, endOf, IsPlace}
@@ -80,13 +80,6 @@ sets-append l i (v ∷ a) b =
 -- where there is room for all of them, they stand at the front
 pub sets-front : (l vs : List ℕ) → length vs ≤ length l → sets l 0 vs ≡ vs ++ drop (length vs) l
 sets-front l vs h = let e : 0 + length vs ≡ length vs = omega arith in rw e at (sets-eq vs l 0 (omega arith))
-
-pub sets-full : (l vs : List ℕ) → length vs ≡ length l → sets l 0 vs ≡ vs
-sets-full l vs e = sets-front l vs (omega arith) ∙ rw (e, drop-length l, append-nil vs)
-
-pub sets-nowhere : (i : ℕ) (vs : List ℕ) → _≡_ {A = List ℕ} (sets [] i vs) []
-sets-nowhere i [] = refl
-sets-nowhere i (v ∷ vs) = sets-nowhere (suc i) vs
 
 pub wrote-none : (count : ℕ) (l : List ℕ) → Wrote [] count count l l
 wrote-none count l = record { counted = omega arith; written = refl }

@@ -1,14 +1,10 @@
--- `written` fills the memory with what is left, and makes the list of it.
+-- `written` fills the front of the memory with what is left, and makes the list of it there.
 use mathlib.Core.Path.{sym}
-use native.Mathlib.Omega.{arith}
-use Rattle.area.specs.Ends.{front-length, front-parted, left-all, left-numbers, left-listed}
+use lib.Seq.{length-take-le}
+use Rattle.area.specs.Ends.{front-length, front-parted, left-all, part-numbers, written-all}
 use borrow.Author.Needs.{needs}
 use Rattle.area.proofs.written.Statement.{statement}
 use Rattle.area.proofs.written.Tie as tie
-use Rattle.area.proofs.written.Reads as reads
-use Rattle.area.proofs.written.Lts as lts
-use Rattle.area.proofs.remain.Reads as remain-reads
-use Rattle.tile_list.proofs.finish.Reads as finish-reads
 
 add-both : tie.Need-add-both
 add-both c = search needs
@@ -22,11 +18,20 @@ slice-aggregate-remain c = let s = c .before .before .before .before .before in 
 remain-requires : tie.Need-remain-requires
 remain-requires c κs = let s = c .before .before .before .before .before .before in front-parted (s .args .a .now) (s .args .b .now) (s .args .keys .now) (s .pre .0)
 
+slice-relend-prefix-finish : tie.Need-slice-relend-prefix-finish
+slice-relend-prefix-finish c =
+    let s = c .before .before .before .before .before .before .before .before .before in
+    left-all (s .args .a .now) (s .args .b .now) (s .args .keys .now) (s .pre .0) _ _ _ (c .before .before .remain .ensures) (s .pre .1) .1
+
+slice-aggregate-finish : tie.Need-slice-aggregate-finish
+slice-aggregate-finish c =
+    let s = c .before .before .before .before .before .before .before .before .before .before in
+    sym (length-take-le _ _ (left-all (s .args .a .now) (s .args .b .now) (s .args .keys .now) (s .pre .0) _ _ _ (c .before .before .before .remain .ensures) (s .pre .1) .1))
+
 finish-requires : tie.Need-finish-requires
 finish-requires c κs =
     let s = c .before .before .before .before .before .before .before .before .before .before .before in
-    let m = c .before .before .before .before .remain .ensures in
-    (left-all (s .args .a .now) (s .args .b .now) (s .args .keys .now) (s .pre .0) _ _ _ m (omega (arith, s .pre .1)) .1, left-numbers (s .args .a .now) (s .args .b .now) (s .args .keys .now) (s .pre .0) _ _ _ m (omega (arith, s .pre .1)))
+    part-numbers (s .args .a .now) (s .args .b .now) (s .args .keys .now) (s .pre .0) _ _ _ (c .before .before .before .before .remain .ensures) (s .pre .1)
 
 same-length : tie.Need-same-length
 same-length c = search needs
@@ -36,8 +41,10 @@ same-length-2 c = search needs
 
 returns : tie.Need-returns
 returns c =
+    let f = c .before .before .before .before .finish in
+    let r = c .before .before .before .before .before .before .before .before .before .remain in
     let s = c .before .before .before .before .before .before .before .before .before .before .before .before .before .before .before .before in
-    left-listed (s .args .a .now) (s .args .b .now) (s .args .keys .now) (s .pre .0) _ _ _ (c .before .before .before .before .before .before .before .before .before .remain .ensures) (omega (arith, s .pre .1)) (c .before .before .before .before .finish .ensures)
+    written-all (s .args .a .now) (s .args .b .now) (s .args .keys .now) (s .args .out .now) (s .pre .0) _ (r .result) (r .ensures) (s .pre .1) (f .last .0) (f .result) (f .kept .0) (f .ensures)
 
 pub written-spec : {M : Type 1} → statement M
 written-spec =
@@ -47,6 +54,8 @@ written-spec =
     slice-reshare-prefix-remain
     slice-aggregate-remain
     remain-requires
+    slice-relend-prefix-finish
+    slice-aggregate-finish
     finish-requires
     same-length
     same-length-2
