@@ -38,47 +38,36 @@ module _ (from : ℕ) (quads : List ℕ) (i : ℕ) where
   last h k e =
       rw (← first, ← getD-drop i quads 3 0) (four-last from (drop i quads) (long h) (rw first k) (rw first e))
 
--- src/lib.rt:31:8
 sub-if1 : tie.Need-sub-if1
 sub-if1 c = search needs
 
--- src/lib.rt:32:9
 returns : tie.Need-returns
 returns c = let a = c .before .before .args in short (a .from) (a .quads .now) (a .i) (c .if1 .taken)
 
--- src/lib.rt:34:13
 mul-q : tie.Need-mul-q
 mul-q c = search needs
 
--- src/lib.rt:34:13
 shared-slice-read-q : tie.Need-shared-slice-read-q
 shared-slice-read-q c = search needs
 
--- src/lib.rt:36:9
 returns-2 : tie.Need-returns-2
 returns-2 c = let a = c .before .before .before .before .args in low (a .from) (a .quads .now) (a .i) (omega arith) (c .if2 .taken)
 
--- src/lib.rt:39:9
 returns-3 : tie.Need-returns-3
 returns-3 c = let a = c .before .before .before .before .before .args in inner (a .from) (a .quads .now) (a .i) (omega arith) (omega arith) (c .if3 .taken)
 
--- src/lib.rt:41:5
 fourth-requires : tie.Need-fourth-requires
 fourth-requires c κs = search needs
 
--- src/lib.rt:41:24
 add-result : tie.Need-add-result
 add-result c = search needs
 
--- src/lib.rt:41:18
 mul-result : tie.Need-mul-result
 mul-result c = search needs
 
--- src/lib.rt:41:18
 shared-slice-read-result : tie.Need-shared-slice-read-result
 shared-slice-read-result c = search needs
 
--- src/lib.rt:27:1
 returns-4 : tie.Need-returns-4
 returns-4 c =
     let a = c .before .before .before .before .before .before .before .args in

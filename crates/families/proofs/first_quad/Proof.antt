@@ -21,36 +21,28 @@ none : (m n : ℕ) → maxZoom ≤ m → n ≡ 2 ^ (2 * (maxZoom + 1)) % 2 ^ 64 
 unfolding firstQuad
 none m n h e = rw (le-ltb m maxZoom h) (power maxZoom n maxZoom-small e)
 
--- src/lib.rt:36:37
 add-wide-pow2 : tie.Need-add-wide-pow2
 add-wide-pow2 c = search needs
 
--- src/lib.rt:36:32
 mul-wide-pow2 : tie.Need-mul-wide-pow2
 mul-wide-pow2 c = search needs
 
--- src/lib.rt:36:9
 wide-pow2-requires : tie.Need-wide-pow2-requires
 wide-pow2-requires c κs = search needs
 
--- src/lib.rt:36:9
 returns : tie.Need-returns
 unfolding maxZoom
 returns c = above (c .before .before .args .m) _ (c .before .if1 .taken) (c .wide-pow2 .ensures)
 
--- src/lib.rt:38:26
 add-wide-pow2-2 : tie.Need-add-wide-pow2-2
 add-wide-pow2-2 c = search needs
 
--- src/lib.rt:38:21
 mul-wide-pow2-2 : tie.Need-mul-wide-pow2-2
 mul-wide-pow2-2 c = search needs
 
--- src/lib.rt:38:5
 wide-pow2-requires-2 : tie.Need-wide-pow2-requires-2
 wide-pow2-requires-2 c κs = search needs
 
--- src/lib.rt:32:1
 returns-2 : tie.Need-returns-2
 unfolding maxZoom
 returns-2 c = none (c .before .before .args .m) _ (c .before .if1 .left) (c .wide-pow22 .ensures)

@@ -54,51 +54,39 @@ Inv-loop quads₀ from count₀ i₀ quads count i = Mid from quads₀ quads cou
 abbrev μ-loop : tie.MeasureT-loop
 μ-loop quads₀ from count₀ i₀ quads count i = length quads₀ - i
 
--- src/lib.rt:13:5
 loop-holds : tie.Need-loop-holds Inv-loop μ-loop
 loop-holds c = record { order = omega arith; within = omega arith; long = refl; done = refl }
 
--- src/lib.rt:14:17
 mul-q : tie.Need-mul-q Inv-loop μ-loop
 mul-q c = search needs
 
--- src/lib.rt:14:17
 slice-read-q : tie.Need-slice-read-q Inv-loop μ-loop
 slice-read-q c = search needs
 
--- src/lib.rt:15:12
 family-at-requires : tie.Need-family-at-requires Inv-loop μ-loop
 family-at-requires c κs = search needs
 
--- src/lib.rt:16:13
 mul-quads : tie.Need-mul-quads Inv-loop μ-loop
 mul-quads c = search needs
 
--- src/lib.rt:16:13
 slice-write-quads : tie.Need-slice-write-quads Inv-loop μ-loop
 slice-write-quads c = search needs
 
--- src/lib.rt:17:13
 add-i : tie.Need-add-i Inv-loop μ-loop
 add-i c = search needs
 
--- src/lib.rt:19:13
 mul-quads-2 : tie.Need-mul-quads-2 Inv-loop μ-loop
 mul-quads-2 c = search needs
 
--- src/lib.rt:19:13
 slice-write-quads-2 : tie.Need-slice-write-quads-2 Inv-loop μ-loop
 slice-write-quads-2 c = search needs
 
--- src/lib.rt:20:13
 add-i-2 : tie.Need-add-i-2 Inv-loop μ-loop
 add-i-2 c = search needs
 
--- src/lib.rt:22:9
 add-count : tie.Need-add-count Inv-loop μ-loop
 add-count c = search needs
 
--- src/lib.rt:13:5
 loop-less : tie.Need-loop-less Inv-loop μ-loop
 loop-less c =
     let L = c .before .before .before .before .before .loop in
@@ -109,7 +97,6 @@ loop-less c =
     (λ w. let e = w .2 in omega (arith, lt, M .long))
     (c .if1 .came)
 
--- src/lib.rt:13:5
 loop-again : tie.Need-loop-again Inv-loop μ-loop
 loop-again c =
     let start = c .before .before .before .before .before .before .before in
@@ -124,11 +111,9 @@ loop-again c =
     (λ w. rw (w .1, w .2) (two (sym f ∙ w .0 .left)))
     (c .if1 .came)
 
--- src/lib.rt:8:1
 same-length : tie.Need-same-length Inv-loop μ-loop
 same-length c = search needs
 
--- src/lib.rt:8:1
 returns : tie.Need-returns Inv-loop μ-loop
 returns c =
     let L = c .before .loop in

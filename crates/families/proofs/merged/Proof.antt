@@ -12,28 +12,22 @@ use Rattle.families.proofs.pass.Reads as pass-reads
 use Rattle.sort.proofs.sort_into.Reads as sort-into-reads
 use Rattle.tile_list.proofs.finish.Reads as finish-reads
 
--- src/lib.rt:23:5
 sort-into-requires : tie.Need-sort-into-requires
 sort-into-requires c κs = search needs
 
--- src/lib.rt:24:9
 pass-requires : tie.Need-pass-requires
 pass-requires c κs =
     let l = c .before .before .before .before .before .before .before .before .before .before .args .quads .now in rw (c .before .before .before .before .before .sort-into .ensures) (sort-numbers quadOf l (c .before .before .before .before .before .before .before .before .before .before .pre .0), sorted-by l)
 
--- src/lib.rt:26:9
 finish-requires : tie.Need-finish-requires
 finish-requires c κs = search needs
 
--- src/lib.rt:19:1
 same-length : tie.Need-same-length
 same-length c = search needs
 
--- src/lib.rt:19:1
 same-length-2 : tie.Need-same-length-2
 same-length-2 c = search needs
 
--- src/lib.rt:19:1
 returns : tie.Need-returns
 returns c = passed-merges (c .before .before .before .before .before .before .before .before .before .before .before .before .before .before .before .before .before .before .before .before .args .quads .now) (rw (c .before .before .before .before .before .before .before .before .before .before .before .before .before .before .before .sort-into .ensures) at (c .before .before .before .before .before .before .before .before .before .pass .ensures)) (c .before .before .before .before .finish .ensures)
 

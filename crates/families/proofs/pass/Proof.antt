@@ -16,31 +16,24 @@ use Rattle.families.proofs.first_quad.Reads as first-quad-reads
 use Rattle.families.proofs.join.Reads as join-reads
 use Rattle.sort.proofs.once.Reads as once-reads
 
--- src/lib.rt:23:9
 once-requires : tie.Need-once-requires
 once-requires c κs = search needs
 
--- src/lib.rt:24:22
 slice-relend-prefix-join : tie.Need-slice-relend-prefix-join
 slice-relend-prefix-join c = search needs
 
--- src/lib.rt:24:22
 slice-aggregate-join : tie.Need-slice-aggregate-join
 slice-aggregate-join c = let o = c .before .before .before .once .ensures in sym (length-take-le _ (c .before .before .before .once .last .0) (o .within))
 
--- src/lib.rt:24:42
 first-quad-requires : tie.Need-first-quad-requires
 first-quad-requires c κs = search needs
 
--- src/lib.rt:24:9
 join-requires : tie.Need-join-requires
 join-requires c κs = search needs
 
--- src/lib.rt:19:1
 same-length : tie.Need-same-length
 same-length c = search needs
 
--- src/lib.rt:19:1
 returns : tie.Need-returns
 returns c =
     let start = c .before .before .before .before .before .before .before .before .before .before in

@@ -20,47 +20,38 @@ Inv-loop quads₀ count scratch₀ m left₀ zooms₀ quads scratch left zooms =
 abbrev μ-loop : tie.MeasureT-loop
 μ-loop quads₀ count scratch₀ m left₀ zooms₀ quads scratch left zooms = zooms
 
--- src/lib.rt:39:5
 loop-holds : tie.Need-loop-holds Inv-loop μ-loop
 unfolding maxZoom
 loop-holds c =
     let a = c .before .before .args in (first-turn (a .m) (take (a .count) (a .quads .now)) (a .quads .now) (a .count) (c .before .before .pre .0 .0) (c .before .before .pre .1) refl, refl, refl)
 
--- src/lib.rt:40:34
 slice-relend-prefix-sorted-pass : tie.Need-slice-relend-prefix-sorted-pass Inv-loop μ-loop
 slice-relend-prefix-sorted-pass c = search needs
 
--- src/lib.rt:40:34
 slice-aggregate-sorted-pass : tie.Need-slice-aggregate-sorted-pass Inv-loop μ-loop
 slice-aggregate-sorted-pass c = let L = c .before .before .loop in sym (length-take-le (L .left) (L .quads) (L .inv .0 .within))
 
--- src/lib.rt:40:54
 slice-relend-prefix-sorted-pass-2 : tie.Need-slice-relend-prefix-sorted-pass-2 Inv-loop μ-loop
 slice-relend-prefix-sorted-pass-2 c = search needs
 
--- src/lib.rt:40:54
 slice-aggregate-sorted-pass-2 : tie.Need-slice-aggregate-sorted-pass-2 Inv-loop μ-loop
 slice-aggregate-sorted-pass-2 c =
     let L = c .before .before .before .loop in
     let h : L .left ≤ length (L .scratch) = omega (arith, c .before .before .before .before .before .before .pre .0 .1, L .inv .0 .within, L .inv .1, L .inv .2) in
     sym (length-take-le (L .left) (L .scratch) h)
 
--- src/lib.rt:40:13
 sorted-pass-requires : tie.Need-sorted-pass-requires Inv-loop μ-loop
 sorted-pass-requires c κs =
     let L = c .before .before .before .loop in
     let h : L .left ≤ length (L .scratch) = omega (arith, c .before .before .before .before .before .before .pre .0 .1, L .inv .0 .within, L .inv .1, L .inv .2) in
     (L .inv .0 .numbers, length-take-le (L .left) (L .quads) (L .inv .0 .within) ∙ sym (length-take-le (L .left) (L .scratch) h))
 
--- src/lib.rt:43:13
 same-length : tie.Need-same-length Inv-loop μ-loop
 same-length c = search needs
 
--- src/lib.rt:43:13
 same-length-2 : tie.Need-same-length-2 Inv-loop μ-loop
 same-length-2 c = search needs
 
--- src/lib.rt:43:13
 returns : tie.Need-returns Inv-loop μ-loop
 returns c =
     let a = c .before .before .before .before .before .before .before .before .before .before .before .before .before .args in
@@ -68,15 +59,12 @@ returns c =
     let P = c .before .before .before .before .before .before .sorted-pass in
     last-turn (a .m) (take (a .count) (a .quads .now)) (L .quads) (L .left) (L .zooms) (L .inv .0) (omega arith) (P .last .0) _ (P .result) (P .ensures) (not-true (P .result .changed) (c .if1 .taken))
 
--- src/lib.rt:45:9
 sub-zooms : tie.Need-sub-zooms Inv-loop μ-loop
 sub-zooms c = search needs
 
--- src/lib.rt:39:5
 loop-less : tie.Need-loop-less Inv-loop μ-loop
 loop-less c = search needs
 
--- src/lib.rt:39:5
 loop-again : tie.Need-loop-again Inv-loop μ-loop
 loop-again c =
     let a = c .before .before .before .before .before .before .before .before .before .before .before .before .before .args in
@@ -84,15 +72,12 @@ loop-again c =
     let P = c .before .before .before .before .before .before .sorted-pass in
     (next-turn (a .m) (take (a .count) (a .quads .now)) (L .quads) (L .left) (L .zooms) (L .inv .0) (omega arith) (P .last .0) _ (P .result) (P .ensures), search needs, search needs)
 
--- src/lib.rt:32:1
 same-length-3 : tie.Need-same-length-3 Inv-loop μ-loop
 same-length-3 c = search needs
 
--- src/lib.rt:32:1
 same-length-4 : tie.Need-same-length-4 Inv-loop μ-loop
 same-length-4 c = search needs
 
--- src/lib.rt:32:1
 returns-2 : tie.Need-returns-2 Inv-loop μ-loop
 returns-2 c = let L = c .before .loop in let a = c .before .before .before .before .args in turned-all (a .m) (take (a .count) (a .quads .now)) (L .quads) (L .left) (L .zooms) (L .inv .0) (c .loop-test .left)
 

@@ -11,24 +11,19 @@ use Rattle.families.proofs.sorted_pass.Lts as lts
 use Rattle.families.proofs.pass.Reads as pass-reads
 use Rattle.sort.proofs.sort.Reads as sort-reads
 
--- src/lib.rt:55:5
 sort-requires : tie.Need-sort-requires
 sort-requires c κs = search needs
 
--- src/lib.rt:56:5
 pass-requires : tie.Need-pass-requires
 pass-requires c κs =
     let l = c .before .before .before .before .before .before .before .before .before .before .args .quads .now in rw (c .before .before .before .before .before .sort .ensures) (sort-numbers quadOf l (c .before .before .before .before .before .before .before .before .before .before .pre .0), sorted-by l)
 
--- src/lib.rt:51:1
 same-length : tie.Need-same-length
 same-length c = search needs
 
--- src/lib.rt:51:1
 same-length-2 : tie.Need-same-length-2
 same-length-2 c = search needs
 
--- src/lib.rt:51:1
 returns : tie.Need-returns
 returns c = sort-passed (c .before .before .before .before .before .before .before .before .before .before .before .before .before .args .quads .now) (rw (c .before .before .before .before .before .before .before .before .sort .ensures) at (c .before .before .pass .ensures))
 

@@ -27,69 +27,53 @@ run-below t = and 2 run-kinds.ps (falls 2 run-kinds.ps _<_ μ-run t) run.Pre
 abbrev run-calls : ℕ → run-lts.Claims
 run-calls t = (run-below t, run.Post, short-reads.Asked, short-reads.Learnt, middle-reads.Asked, middle-reads.Learnt, long-reads.Asked, long-reads.Learnt)
 
--- src/lib.rt:67:13
 run-run-requires : (t : ℕ) → run-lts.Need-run-requires (run-calls t) (run-at t) run.Post
 run-run-requires t c κs = (omega (arith, c .before .before .before .before .before .pre .0, c .before .before .if1 .taken), tt)
 
--- src/lib.rt:67:13
 run-same-length : (t : ℕ) → run-lts.Need-same-length (run-calls t) (run-at t) run.Post
 run-same-length t c = search needs
 
--- src/lib.rt:67:13
 run-returns : (t : ℕ) → run-lts.Need-returns (run-calls t) (run-at t) run.Post
 run-returns t c = c .before .before .run .ensures
 
--- src/lib.rt:69:9
 run-short-requires : (t : ℕ) → run-lts.Need-short-requires (run-calls t) (run-at t) run.Post
 run-short-requires t c κs = omega (arith, c .before .if2 .left)
 
--- src/lib.rt:69:9
 run-same-length-2 : (t : ℕ) → run-lts.Need-same-length-2 (run-calls t) (run-at t) run.Post
 run-same-length-2 t c = search needs
 
--- src/lib.rt:69:9
 run-returns-2 : (t : ℕ) → run-lts.Need-returns-2 (run-calls t) (run-at t) run.Post
 run-returns-2 t c = c .before .before .short .ensures
 
--- src/lib.rt:73:13
 run-run-requires-2 : (t : ℕ) → run-lts.Need-run-requires-2 (run-calls t) (run-at t) run.Post
 run-run-requires-2 t c κs = (omega (arith, c .before .before .before .before .before .before .pre .0, c .before .before .if3 .taken), tt)
 
--- src/lib.rt:73:13
 run-same-length-3 : (t : ℕ) → run-lts.Need-same-length-3 (run-calls t) (run-at t) run.Post
 run-same-length-3 t c = search needs
 
--- src/lib.rt:73:13
 run-returns-3 : (t : ℕ) → run-lts.Need-returns-3 (run-calls t) (run-at t) run.Post
 run-returns-3 t c = c .before .before .run2 .ensures
 
--- src/lib.rt:75:9
 run-middle-requires : (t : ℕ) → run-lts.Need-middle-requires (run-calls t) (run-at t) run.Post
 run-middle-requires t c κs = omega (arith, c .before .if4 .left)
 
--- src/lib.rt:75:9
 run-same-length-4 : (t : ℕ) → run-lts.Need-same-length-4 (run-calls t) (run-at t) run.Post
 run-same-length-4 t c = search needs
 
--- src/lib.rt:75:9
 run-returns-4 : (t : ℕ) → run-lts.Need-returns-4 (run-calls t) (run-at t) run.Post
 run-returns-4 t c = c .before .before .middle .ensures
 
--- src/lib.rt:78:9
 run-returns-5 : (t : ℕ) → run-lts.Need-returns-5 (run-calls t) (run-at t) run.Post
 unfolding maxEntries
 run-returns-5 t c = let a = c .before .before .before .before .before .args in too-many (a .work) (a .list .now) (a .m) (a .out .now) (c .if5 .taken)
 
--- src/lib.rt:80:5
 run-long-requires : (t : ℕ) → run-lts.Need-long-requires (run-calls t) (run-at t) run.Post
 unfolding maxEntries
 run-long-requires t c κs = omega (arith, c .before .if5 .left)
 
--- src/lib.rt:61:1
 run-same-length-5 : (t : ℕ) → run-lts.Need-same-length-5 (run-calls t) (run-at t) run.Post
 run-same-length-5 t c = search needs
 
--- src/lib.rt:61:1
 run-returns-6 : (t : ℕ) → run-lts.Need-returns-6 (run-calls t) (run-at t) run.Post
 run-returns-6 t c = c .before .before .long .ensures
 

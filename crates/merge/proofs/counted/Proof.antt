@@ -5,19 +5,15 @@ use Rattle.merge.proofs.counted.Tie as tie
 use Rattle.merge.proofs.counted.Reads as reads
 use Rattle.merge.proofs.counted.Lts as lts
 
--- src/lib.rt:48:28
 enum-known-answer : tie.Need-enum-known-answer
 enum-known-answer c = search needs
 
--- src/lib.rt:49:30
 enum-known-answer-2 : tie.Need-enum-known-answer-2
 enum-known-answer-2 c = search needs
 
--- src/lib.rt:44:1
 returns : tie.Need-returns
 returns c = rw (c .before .answer .given .1)
 
--- src/lib.rt:44:1
 returns-2 : tie.Need-returns-2
 returns-2 c = rw (c .before .answer2 .given .1)
 

@@ -9,26 +9,21 @@ use Rattle.merge.proofs.long.Reads as reads
 use Rattle.merge.proofs.long.Lts as lts
 use Rattle.merge.proofs.work_in.Reads as work-in-reads
 
--- src/lib.rt:117:33
 array-borrow-prefix-scratch : tie.Need-array-borrow-prefix-scratch
 unfolding maxEntries
 array-borrow-prefix-scratch c = c .before .before .before .pre
 
--- src/lib.rt:117:33
 slice-aggregate-work-in : tie.Need-slice-aggregate-work-in
 unfolding maxEntries
 slice-aggregate-work-in c = scratch-part 65536 _ (c .before .before .before .before .pre)
 
--- src/lib.rt:117:5
 work-in-requires : tie.Need-work-in-requires
 unfolding maxEntries
 work-in-requires c κs = (scratch-part 65536 _ (c .before .before .before .before .pre), omega (arith, c .before .before .before .before .pre))
 
--- src/lib.rt:111:1
 same-length : tie.Need-same-length
 same-length c = search needs
 
--- src/lib.rt:111:1
 returns : tie.Need-returns
 returns c = search needs
 

@@ -7,19 +7,15 @@ use Rattle.merge.proofs.merge.Lts as lts
 use Rattle.merge.proofs.run.Reads as run-reads
 use Rattle.tile.proofs.OptionU8.unwrap_or.Reads as unwrap-or-reads
 
--- src/lib.rt:30:9
 unwrap-or-requires : tie.Need-unwrap-or-requires
 unwrap-or-requires c κs = search needs
 
--- src/lib.rt:31:5
 run-requires : tie.Need-run-requires
 run-requires c κs = search needs
 
--- src/lib.rt:27:1
 same-length : tie.Need-same-length
 same-length c = search needs
 
--- src/lib.rt:27:1
 returns : tie.Need-returns
 returns c = rw (← c .before .before .before .before .unwrap-or .ensures) (c .before .before .run .ensures)
 

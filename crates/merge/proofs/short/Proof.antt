@@ -9,24 +9,19 @@ use Rattle.merge.proofs.short.Reads as reads
 use Rattle.merge.proofs.short.Lts as lts
 use Rattle.merge.proofs.work_in.Reads as work-in-reads
 
--- src/lib.rt:99:33
 array-borrow-prefix-scratch : tie.Need-array-borrow-prefix-scratch
 array-borrow-prefix-scratch c = search needs
 
--- src/lib.rt:99:33
 slice-aggregate-work-in : tie.Need-slice-aggregate-work-in
 slice-aggregate-work-in c = scratch-part 64 _ (c .before .before .before .before .pre)
 
--- src/lib.rt:99:5
 work-in-requires : tie.Need-work-in-requires
 unfolding maxEntries
 work-in-requires c κs = (scratch-part 64 _ (c .before .before .before .before .pre), omega (arith, c .before .before .before .before .pre))
 
--- src/lib.rt:93:1
 same-length : tie.Need-same-length
 same-length c = search needs
 
--- src/lib.rt:93:1
 returns : tie.Need-returns
 returns c = search needs
 

@@ -10,23 +10,18 @@ use Rattle.merge.proofs.counted.Reads as counted-reads
 use Rattle.merge.proofs.run.Reads as run-reads
 use Rattle.tile.proofs.OptionU8.unwrap_or.Reads as unwrap-or-reads
 
--- src/lib.rt:40:9
 unwrap-or-requires : tie.Need-unwrap-or-requires
 unwrap-or-requires c κs = search needs
 
--- src/lib.rt:41:13
 run-requires : tie.Need-run-requires
 run-requires c κs = search needs
 
--- src/lib.rt:41:5
 counted-requires : tie.Need-counted-requires
 counted-requires c κs = search needs
 
--- src/lib.rt:37:1
 same-length : tie.Need-same-length
 same-length c = search needs
 
--- src/lib.rt:37:1
 returns : tie.Need-returns
 returns c =
     let a = c .before .before .before .before .before .before .before .before .args in

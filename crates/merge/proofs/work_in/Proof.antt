@@ -16,45 +16,36 @@ use Rattle.merge.proofs.sorted_by.Reads as sorted-by-reads
 use Rattle.merge.proofs.worked.Reads as worked-reads
 use Rattle.quadtree.proofs.keys.Reads as keys-reads
 
--- src/lib.rt:64:39
 sorted-by-requires : tie.Need-sorted-by-requires
 sorted-by-requires c κs = search needs
 
--- src/lib.rt:64:9
 keys-requires : tie.Need-keys-requires
 keys-requires c κs = search needs
 
--- src/lib.rt:65:9
 same-length : tie.Need-same-length
 same-length c = search needs
 
--- src/lib.rt:65:9
 returns : tie.Need-returns
 returns c =
     let a = c .before .before .before .before .before .before .before .before .before .args in
     let k = c .before .before .before .keys in
     no-tile (a .work) (a .list .now) (a .m) (a .out .now) (c .before .before .before .before .before .before .before .before .before .pre .1) (keys-refused _ _ _ _ (k .ensures) (c .if1 .taken))
 
--- src/lib.rt:69:9
 same-length-2 : tie.Need-same-length-2
 same-length-2 c = search needs
 
--- src/lib.rt:69:9
 returns-2 : tie.Need-returns-2
 returns-2 c =
     let a = c .before .before .before .before .before .before .before .before .before .before .args in
     let k = c .before .before .before .before .keys in
     no-room (a .work) (a .list .now) (a .m) (a .out .now) (c .before .before .before .before .before .before .before .before .before .before .pre .1) (keys-fine _ _ _ _ (k .ensures) (c .before .if1 .left)) (c .if2 .taken)
 
--- src/lib.rt:71:49
 slice-relend-prefix-worked : tie.Need-slice-relend-prefix-worked
 slice-relend-prefix-worked c = search needs
 
--- src/lib.rt:71:49
 slice-aggregate-worked : tie.Need-slice-aggregate-worked
 slice-aggregate-worked c = let a = c .before .before .before .before .before .before .before .before .before .before .before .before .args in sym (length-take-le (length (a .list .now)) (a .out .now) (c .before .before .if2 .left))
 
--- src/lib.rt:71:24
 worked-requires : tie.Need-worked-requires
 worked-requires c κs =
     let a = c .before .before .before .before .before .before .before .before .before .before .before .before .args in
@@ -65,15 +56,12 @@ worked-requires c κs =
     let h = length-take-le (length l) (a .out .now) (c .before .before .if2 .left) in
     (λ n m. keys-of-tiles (sortedBy (a .work)) l (sym (keys-fine _ _ _ _ (k .ensures) f)) n (subst (λ (t : List ℕ). List·Memᴰ n t) e m), ap length e ∙ (length-map l _ ∙ sym h))
 
--- src/lib.rt:60:1
 same-length-3 : tie.Need-same-length-3
 same-length-3 c = search needs
 
--- src/lib.rt:60:1
 same-length-4 : tie.Need-same-length-4
 same-length-4 c = search needs
 
--- src/lib.rt:60:1
 returns-3 : tie.Need-returns-3
 returns-3 c =
     let a = c .before .before .before .before .before .before .before .before .before .before .before .before .before .before .before .before .before .args in

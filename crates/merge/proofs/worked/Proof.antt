@@ -21,69 +21,54 @@ asked : (work known : Work) (keys out : List ℕ) → work ≡ known → TileNum
     → TileNumbers (sortKey (sortedBy known)) keys × (length keys ≡ length out)
 asked work known keys out e h = (subst (λ (w : Work). TileNumbers (sortKey (sortedBy w)) keys) e (h .0), h .1)
 
--- src/lib.rt:152:43
 enum-told : tie.Need-enum-told
 enum-told c = search needs
 
--- src/lib.rt:152:17
 merged-requires : tie.Need-merged-requires
 merged-requires c κs = let a = c .before .before .before .before .before .before .args in asked (a .work) _ (a .keys .now) (a .out .now) (c .before .before .enum-told .given .1) (c .before .before .before .before .before .before .pre)
 
--- src/lib.rt:159:45
 enum-told-2 : tie.Need-enum-told-2
 enum-told-2 c = search needs
 
--- src/lib.rt:159:20
 simplified-v1-requires : tie.Need-simplified-v1-requires
 simplified-v1-requires c κs = let a = c .before .before .before .before .before .before .args in asked (a .work) _ (a .keys .now) (a .out .now) (c .before .before .enum-told2 .given .1) (c .before .before .before .before .before .before .pre)
 
--- src/lib.rt:163:39
 enum-told-3 : tie.Need-enum-told-3
 enum-told-3 c = search needs
 
--- src/lib.rt:163:20
 simplified-requires : tie.Need-simplified-requires
 simplified-requires c κs = let a = c .before .before .before .before .before .before .args in asked (a .work) _ (a .keys .now) (a .out .now) (c .before .before .enum-told3 .given .1) (c .before .before .before .before .before .before .pre)
 
--- src/lib.rt:146:1
 same-length : tie.Need-same-length
 same-length c = search needs
 
--- src/lib.rt:146:1
 same-length-2 : tie.Need-same-length-2
 same-length-2 c = search needs
 
--- src/lib.rt:146:1
 returns : tie.Need-returns
 returns c =
     let a = c .before .before .before .before .before .before .before .before .before .before .before .args in
     let r = c .before .before .before .before .merged in
     merged-worked (a .work) (a .m) (a .keys .now) _ (r .result) (c .before .before .before .before .before .before .before .enum-told .given .1) (search needs) (r .ensures)
 
--- src/lib.rt:146:1
 same-length-3 : tie.Need-same-length-3
 same-length-3 c = search needs
 
--- src/lib.rt:146:1
 same-length-4 : tie.Need-same-length-4
 same-length-4 c = search needs
 
--- src/lib.rt:146:1
 returns-2 : tie.Need-returns-2
 returns-2 c =
     let a = c .before .before .before .before .before .before .before .before .before .before .before .args in
     let r = c .before .before .before .before .simplified-v1 in
     simplified-v1-worked (a .work) (a .m) (a .keys .now) _ (r .result) (c .before .before .before .before .before .before .before .enum-told2 .given .1) (search needs) (r .ensures)
 
--- src/lib.rt:146:1
 same-length-5 : tie.Need-same-length-5
 same-length-5 c = search needs
 
--- src/lib.rt:146:1
 same-length-6 : tie.Need-same-length-6
 same-length-6 c = search needs
 
--- src/lib.rt:146:1
 returns-3 : tie.Need-returns-3
 returns-3 c =
     let a = c .before .before .before .before .before .before .before .before .before .before .before .args in

@@ -12,28 +12,22 @@ use Rattle.settle.proofs.settle.Reads as settle-reads
 use Rattle.sort.proofs.sort_into.Reads as sort-into-reads
 use Rattle.tile_list.proofs.finish.Reads as finish-reads
 
--- src/lib.rt:24:5
 sort-into-requires : tie.Need-sort-into-requires
 sort-into-requires c κs = search needs
 
--- src/lib.rt:25:9
 settle-requires : tie.Need-settle-requires
 settle-requires c κs =
     let l = c .before .before .before .before .before .before .before .before .before .before .args .places .now in rw (c .before .before .before .before .before .sort-into .ensures) (sort-numbers placeOf l (c .before .before .before .before .before .before .before .before .before .before .pre .0), sorted-by l)
 
--- src/lib.rt:26:5
 finish-requires : tie.Need-finish-requires
 finish-requires c κs = search needs
 
--- src/lib.rt:20:1
 same-length : tie.Need-same-length
 same-length c = search needs
 
--- src/lib.rt:20:1
 same-length-2 : tie.Need-same-length-2
 same-length-2 c = search needs
 
--- src/lib.rt:20:1
 returns : tie.Need-returns
 returns c =
     let a = c .before .before .before .before .before .before .before .before .before .before .before .before .before .before .before .before .before .before .before .before .args in

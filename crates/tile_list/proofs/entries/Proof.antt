@@ -12,41 +12,32 @@ use Rattle.quadtree.proofs.ranks.Reads as ranks-reads
 use Rattle.sort.proofs.once.Reads as once-reads
 use Rattle.exchange.proofs.sort.Reads as sort-reads
 
--- src/lib.rt:25:5
 ranks-requires : tie.Need-ranks-requires
 ranks-requires c κs = search needs
 
--- src/lib.rt:26:5
 sort-requires : tie.Need-sort-requires
 sort-requires c κs = search needs
 
--- src/lib.rt:27:9
 once-requires : tie.Need-once-requires
 once-requires c κs = search needs
 
--- src/lib.rt:28:23
 slice-relend-prefix-entries : tie.Need-slice-relend-prefix-entries
 slice-relend-prefix-entries c = search needs
 
--- src/lib.rt:28:23
 slice-aggregate-entries : tie.Need-slice-aggregate-entries
 slice-aggregate-entries c = let o = c .before .before .before .once in sym (length-take-le (o .result) (o .last .0) (o .ensures .within))
 
--- src/lib.rt:28:5
 entries-requires : tie.Need-entries-requires
 entries-requires c κs =
     let a = c .before .before .before .before .before .before .before .before .before .before .before .before .before .before .before .before .before .before .args in
     front-ranks (a .placed) (a .keys .now) _ _ _ _ (c .before .before .before .before .before .before .before .before .before .before .before .before .before .before .before .before .before .before .pre) (c .before .before .before .before .before .before .before .before .before .before .before .before .before .before .ranks .ensures) (c .before .before .before .before .before .before .before .before .before .sort .ensures) (c .before .before .before .once .ensures)
 
--- src/lib.rt:21:1
 same-length : tie.Need-same-length
 same-length c = search needs
 
--- src/lib.rt:21:1
 same-length-2 : tie.Need-same-length-2
 same-length-2 c = search needs
 
--- src/lib.rt:21:1
 returns : tie.Need-returns
 returns c =
     let a = c .before .before .before .before .before .before .before .before .before .before .before .before .before .before .before .before .before .before .before .before .before .args in

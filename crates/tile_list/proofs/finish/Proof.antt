@@ -12,31 +12,24 @@ use Rattle.tile_list.proofs.finish.Lts as lts
 use Rattle.sort.proofs.clear.Reads as clear-reads
 use Rattle.tile_list.proofs.entries.Reads as entries-reads
 
--- src/lib.rt:16:26
 slice-relend-prefix-entries : tie.Need-slice-relend-prefix-entries
 slice-relend-prefix-entries c = search needs
 
--- src/lib.rt:16:26
 slice-aggregate-entries : tie.Need-slice-aggregate-entries
 slice-aggregate-entries c = let a = c .before .before .before .args in sym (length-take-le (a .count) (a .keys .now) (c .before .before .before .pre .0))
 
--- src/lib.rt:16:9
 entries-requires : tie.Need-entries-requires
 entries-requires c κs = search needs
 
--- src/lib.rt:17:5
 clear-requires : tie.Need-clear-requires
 clear-requires c κs = let e = c .before .before .before .before .before .entries in rw (length-append (e .last .0) _) (omega (arith, e .ensures .0))
 
--- src/lib.rt:11:1
 same-length : tie.Need-same-length
 same-length c = search needs
 
--- src/lib.rt:11:1
 same-length-2 : tie.Need-same-length-2
 same-length-2 c = search needs
 
--- src/lib.rt:11:1
 returns : tie.Need-returns
 returns c =
     let a = c .before .before .before .before .before .before .before .before .before .before .before .before .before .args in
