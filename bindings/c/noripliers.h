@@ -6,6 +6,11 @@
  * that apply, the lowest. Each value comes back through a pointer. Where the call is refused it
  * is 0, and lent memory is as it was before.
  *
+ * So look at every result. 0 is a value like others: for a tile, an entry and a key's length it
+ * is the root, and a list with a refusal that went unseen covers the whole map. Each call is
+ * marked NORI_NODISCARD: a compiler of C23, of C++17, gcc and clang warn of a result that is not
+ * used.
+ *
  * A list is a pointer and a count of entries, lent memory a pointer and a count of places; a
  * key, a line and a chunk are bytes and a length. An answer goes to the front of the lent
  * memory, which needs a place for each of its entries, and its count of entries comes back; the
@@ -27,6 +32,16 @@
 
 #ifdef __cplusplus
 extern "C" {
+#endif
+
+#if defined(__cplusplus) && __cplusplus >= 201703L
+#define NORI_NODISCARD [[nodiscard]]
+#elif defined(__STDC_VERSION__) && __STDC_VERSION__ >= 202311L
+#define NORI_NODISCARD [[nodiscard]]
+#elif defined(__GNUC__)
+#define NORI_NODISCARD __attribute__((warn_unused_result))
+#else
+#define NORI_NODISCARD
 #endif
 
 /* The deepest zoom. */
@@ -90,53 +105,63 @@ enum nori_refusal {
 
 /* The tile itself, where x, y and z name one of the map.
  * Refused: 1, 2. */
-uint8_t nori_try_new(uint32_t x, uint32_t y, uint8_t z, uint32_t *tx, uint32_t *ty, uint8_t *tz);
+NORI_NODISCARD uint8_t nori_try_new(uint32_t x, uint32_t y, uint8_t z, uint32_t *tx, uint32_t *ty,
+                                    uint8_t *tz);
 
 /* Whether x, y and z name a tile of the map: nothing but the number comes back.
  * Refused: 1, 2. */
-uint8_t nori_check(uint32_t x, uint32_t y, uint8_t z);
+NORI_NODISCARD uint8_t nori_check(uint32_t x, uint32_t y, uint8_t z);
 
 /* The tile with its row counted from the other side of the map.
  * Refused: 1, 2. */
-uint8_t nori_flip(uint32_t x, uint32_t y, uint8_t z, uint32_t *tx, uint32_t *ty, uint8_t *tz);
+NORI_NODISCARD uint8_t nori_flip(uint32_t x, uint32_t y, uint8_t z, uint32_t *tx, uint32_t *ty,
+                                 uint8_t *tz);
 
 /* The order of lists of tiles, by zoom, then column, then row: 0 for less, 1 for equal, 2 for
  * greater. Any numbers are compared, on the map or not.
  * Never refused. */
-uint8_t nori_cmp(uint32_t ax, uint32_t ay, uint8_t az, uint32_t bx, uint32_t by, uint8_t bz,
-                 uint8_t *order);
+NORI_NODISCARD uint8_t nori_cmp(uint32_t ax, uint32_t ay, uint8_t az, uint32_t bx, uint32_t by,
+                                uint8_t bz, uint8_t *order);
 
 /* The tile at (x + 1, y), where that is on the map; the name is the Rust's.
  * Refused: 1, 2. */
-uint8_t nori_up(uint32_t x, uint32_t y, uint8_t z, uint32_t *tx, uint32_t *ty, uint8_t *tz);
+NORI_NODISCARD uint8_t nori_up(uint32_t x, uint32_t y, uint8_t z, uint32_t *tx, uint32_t *ty,
+                               uint8_t *tz);
 
 /* The tile at (x - 1, y), where that is on the map; the name is the Rust's.
  * Refused: 1, 2. */
-uint8_t nori_down(uint32_t x, uint32_t y, uint8_t z, uint32_t *tx, uint32_t *ty, uint8_t *tz);
+NORI_NODISCARD uint8_t nori_down(uint32_t x, uint32_t y, uint8_t z, uint32_t *tx, uint32_t *ty,
+                                 uint8_t *tz);
 
 /* The tile at (x, y - 1), where that is on the map; the name is the Rust's.
  * Refused: 1, 2. */
-uint8_t nori_left(uint32_t x, uint32_t y, uint8_t z, uint32_t *tx, uint32_t *ty, uint8_t *tz);
+NORI_NODISCARD uint8_t nori_left(uint32_t x, uint32_t y, uint8_t z, uint32_t *tx, uint32_t *ty,
+                                 uint8_t *tz);
 
 /* The tile at (x, y + 1), where that is on the map; the name is the Rust's.
  * Refused: 1, 2. */
-uint8_t nori_right(uint32_t x, uint32_t y, uint8_t z, uint32_t *tx, uint32_t *ty, uint8_t *tz);
+NORI_NODISCARD uint8_t nori_right(uint32_t x, uint32_t y, uint8_t z, uint32_t *tx, uint32_t *ty,
+                                  uint8_t *tz);
 
 /* The tile at (x + 1, y - 1), where that is on the map; the name is the Rust's.
  * Refused: 1, 2. */
-uint8_t nori_up_left(uint32_t x, uint32_t y, uint8_t z, uint32_t *tx, uint32_t *ty, uint8_t *tz);
+NORI_NODISCARD uint8_t nori_up_left(uint32_t x, uint32_t y, uint8_t z, uint32_t *tx, uint32_t *ty,
+                                    uint8_t *tz);
 
 /* The tile at (x + 1, y + 1), where that is on the map; the name is the Rust's.
  * Refused: 1, 2. */
-uint8_t nori_up_right(uint32_t x, uint32_t y, uint8_t z, uint32_t *tx, uint32_t *ty, uint8_t *tz);
+NORI_NODISCARD uint8_t nori_up_right(uint32_t x, uint32_t y, uint8_t z, uint32_t *tx, uint32_t *ty,
+                                     uint8_t *tz);
 
 /* The tile at (x - 1, y - 1), where that is on the map; the name is the Rust's.
  * Refused: 1, 2. */
-uint8_t nori_down_left(uint32_t x, uint32_t y, uint8_t z, uint32_t *tx, uint32_t *ty, uint8_t *tz);
+NORI_NODISCARD uint8_t nori_down_left(uint32_t x, uint32_t y, uint8_t z, uint32_t *tx, uint32_t *ty,
+                                      uint8_t *tz);
 
 /* The tile at (x - 1, y + 1), where that is on the map; the name is the Rust's.
  * Refused: 1, 2. */
-uint8_t nori_down_right(uint32_t x, uint32_t y, uint8_t z, uint32_t *tx, uint32_t *ty, uint8_t *tz);
+NORI_NODISCARD uint8_t nori_down_right(uint32_t x, uint32_t y, uint8_t z, uint32_t *tx,
+                                       uint32_t *ty, uint8_t *tz);
 
 /* ---------------------------------------------------------------------------------------------- */
 
@@ -145,45 +170,46 @@ uint8_t nori_down_right(uint32_t x, uint32_t y, uint8_t z, uint32_t *tx, uint32_
 
 /* The key of a tile; count is its length, the zoom.
  * Refused: 1, 2, 12. */
-uint8_t nori_xyz2quadkey(uint32_t x, uint32_t y, uint8_t z, uint8_t *out, size_t out_places,
-                         uint64_t *count);
+NORI_NODISCARD uint8_t nori_xyz2quadkey(uint32_t x, uint32_t y, uint8_t z, uint8_t *out,
+                                        size_t out_places, uint64_t *count);
 
 /* The digits of a tile's key as the numbers 0 to 3.
  * Refused: 1, 2, 12. */
-uint8_t nori_xyz2quadkey_vec(uint32_t x, uint32_t y, uint8_t z, uint8_t *out, size_t out_places,
-                             uint64_t *count);
+NORI_NODISCARD uint8_t nori_xyz2quadkey_vec(uint32_t x, uint32_t y, uint8_t z, uint8_t *out,
+                                            size_t out_places, uint64_t *count);
 
 /* The tile of a key.
  * Refused: 4, 5. */
-uint8_t nori_quadkey2xyz(const uint8_t *key, size_t key_length, uint32_t *tx, uint32_t *ty,
-                         uint8_t *tz);
+NORI_NODISCARD uint8_t nori_quadkey2xyz(const uint8_t *key, size_t key_length, uint32_t *tx,
+                                        uint32_t *ty, uint8_t *tz);
 
 /* Whether the bytes are a key: nothing but the number comes back.
  * Refused: 4, 5. */
-uint8_t nori_quadkey_check(const uint8_t *key, size_t key_length);
+NORI_NODISCARD uint8_t nori_quadkey_check(const uint8_t *key, size_t key_length);
 
 /* Whether the bytes are a key, told as yes or no.
  * Never refused. */
-uint8_t nori_is_quadkey(const uint8_t *key, size_t key_length, uint8_t *told);
+NORI_NODISCARD uint8_t nori_is_quadkey(const uint8_t *key, size_t key_length, uint8_t *told);
 
 /* Whether a byte is a digit of a key.
  * Never refused. */
-uint8_t nori_is_quadkey_byte(uint8_t b, uint8_t *told);
+NORI_NODISCARD uint8_t nori_is_quadkey_byte(uint8_t b, uint8_t *told);
 
 /* The key of the tile whose row is counted from the other side of the map: 0 and 2 change
  * places, 1 and 3.
  * Refused: 4, 5, 12. */
-uint8_t nori_quadkey_flipy(const uint8_t *key, size_t key_length, uint8_t *out, size_t out_places,
-                           uint64_t *count);
+NORI_NODISCARD uint8_t nori_quadkey_flipy(const uint8_t *key, size_t key_length, uint8_t *out,
+                                          size_t out_places, uint64_t *count);
 
 /* The key of the ancestor at zoom n is the first n bytes of the caller's own key: length is n.
  * Refused: 3, 4, 5. */
-uint8_t nori_ancestor_key(const uint8_t *key, size_t key_length, size_t n, uint64_t *length);
+NORI_NODISCARD uint8_t nori_ancestor_key(const uint8_t *key, size_t key_length, size_t n,
+                                         uint64_t *length);
 
 /* The key of the deepest ancestor that two keys share is the first length bytes of a.
  * Refused: 4, 5. */
-uint8_t nori_shared_key(const uint8_t *a, size_t a_length, const uint8_t *b, size_t b_length,
-                        uint64_t *length);
+NORI_NODISCARD uint8_t nori_shared_key(const uint8_t *a, size_t a_length, const uint8_t *b,
+                                       size_t b_length, uint64_t *length);
 
 /* ---------------------------------------------------------------------------------------------- */
 
@@ -191,90 +217,91 @@ uint8_t nori_shared_key(const uint8_t *a, size_t a_length, const uint8_t *b, siz
 
 /* The first and the last column, and row, of a zoom: 0 and 2^zoom - 1.
  * Refused: 1. */
-uint8_t nori_minmax(uint8_t zoom, uint32_t *min, uint32_t *max);
+NORI_NODISCARD uint8_t nori_minmax(uint8_t zoom, uint32_t *min, uint32_t *max);
 
 /* Whether x, y and z name a tile of the map, told as yes or no.
  * Never refused. */
-uint8_t nori_valid(uint32_t x, uint32_t y, uint8_t z, uint8_t *told);
+NORI_NODISCARD uint8_t nori_valid(uint32_t x, uint32_t y, uint8_t z, uint8_t *told);
 
 /* The row counted from the other side of the map: 2^z - 1 - y.
  * Refused: 1, 2. */
-uint8_t nori_flipy(uint32_t y, uint8_t z, uint32_t *row);
+NORI_NODISCARD uint8_t nori_flipy(uint32_t y, uint8_t z, uint32_t *row);
 
 /* The same as nori_flipy.
  * Refused: 1, 2. */
-uint8_t nori_yflip(uint32_t y, uint8_t z, uint32_t *row);
+NORI_NODISCARD uint8_t nori_yflip(uint32_t y, uint8_t z, uint32_t *row);
 
 /* The ancestor at zoom z - 1 - n. n counts the steps beyond the parent; the Rust's None is 0.
  * Refused: 1, 2, 3. */
-uint8_t nori_parent(uint32_t x, uint32_t y, uint8_t z, uint8_t n, uint32_t *tx, uint32_t *ty,
-                    uint8_t *tz);
+NORI_NODISCARD uint8_t nori_parent(uint32_t x, uint32_t y, uint8_t z, uint8_t n, uint32_t *tx,
+                                   uint32_t *ty, uint8_t *tz);
 
 /* The tiles of the target zoom inside a tile, each family clockwise by digits 0, 1, 3, 2. A
  * target of z or less gives the tile itself; the Rust's None is z + 1.
  * Refused: 1, 2, 12. */
-uint8_t nori_children(uint32_t x, uint32_t y, uint8_t z, uint8_t zoom, uint64_t *out,
-                      size_t out_places, uint64_t *count);
+NORI_NODISCARD uint8_t nori_children(uint32_t x, uint32_t y, uint8_t z, uint8_t zoom, uint64_t *out,
+                                     size_t out_places, uint64_t *count);
 
 /* The same, each family by digits 0, 1, 2, 3; the Rust's None is z + 1.
  * Refused: 1, 2, 12. */
-uint8_t nori_children_zorder(uint32_t x, uint32_t y, uint8_t z, uint8_t zoom, uint64_t *out,
-                             size_t out_places, uint64_t *count);
+NORI_NODISCARD uint8_t nori_children_zorder(uint32_t x, uint32_t y, uint8_t z, uint8_t zoom,
+                                            uint64_t *out, size_t out_places, uint64_t *count);
 
 /* The four children of a tile, by digits 0, 1, 2, 3.
  * Refused: 1, 2, 12. */
-uint8_t nori_children1_zorder(uint32_t x, uint32_t y, uint8_t z, uint64_t *out, size_t out_places,
-                              uint64_t *count);
+NORI_NODISCARD uint8_t nori_children1_zorder(uint32_t x, uint32_t y, uint8_t z, uint64_t *out,
+                                             size_t out_places, uint64_t *count);
 
 /* The other three children of the tile's parent: beside it, above or below it, and across.
  * Refused: 1, 2, 3, 12. */
-uint8_t nori_siblings(uint32_t x, uint32_t y, uint8_t z, uint64_t *out, size_t out_places,
-                      uint64_t *count);
+NORI_NODISCARD uint8_t nori_siblings(uint32_t x, uint32_t y, uint8_t z, uint64_t *out,
+                                     size_t out_places, uint64_t *count);
 
 /* The tiles of the map around a tile, in the Rust's order: none at zoom 0, the siblings at zoom
  * 1.
  * Refused: 1, 2, 12. */
-uint8_t nori_neighbors(uint32_t x, uint32_t y, uint8_t z, uint64_t *out, size_t out_places,
-                       uint64_t *count);
+NORI_NODISCARD uint8_t nori_neighbors(uint32_t x, uint32_t y, uint8_t z, uint64_t *out,
+                                      size_t out_places, uint64_t *count);
 
 /* The same from zoom 2 on where the last column stands beside the first, in the Rust's order for
  * that.
  * Refused: 1, 2, 12. */
-uint8_t nori_neighbors_wrap_x(uint32_t x, uint32_t y, uint8_t z, uint64_t *out, size_t out_places,
-                              uint64_t *count);
+NORI_NODISCARD uint8_t nori_neighbors_wrap_x(uint32_t x, uint32_t y, uint8_t z, uint64_t *out,
+                                             size_t out_places, uint64_t *count);
 
 /* The first bit from the top, counted from 0, where west and east or south and north differ, at
  * most 28.
  * Never refused. */
-uint8_t nori_bbox2zoom(uint32_t west, uint32_t south, uint32_t east, uint32_t north, uint8_t *zoom);
+NORI_NODISCARD uint8_t nori_bbox2zoom(uint32_t west, uint32_t south, uint32_t east, uint32_t north,
+                                      uint8_t *zoom);
 
 /* The number (2^(z + 1) * y + x) * 32 + z of a tile.
  * Refused: 1, 2. */
-uint8_t nori_to_id(uint32_t x, uint32_t y, uint8_t z, uint64_t *id);
+NORI_NODISCARD uint8_t nori_to_id(uint32_t x, uint32_t y, uint8_t z, uint64_t *id);
 
 /* The tile of a number of nori_to_id.
  * Refused: 7. */
-uint8_t nori_from_id(uint64_t id, uint32_t *tx, uint32_t *ty, uint8_t *tz);
+NORI_NODISCARD uint8_t nori_from_id(uint64_t id, uint32_t *tx, uint32_t *ty, uint8_t *tz);
 
 /* The number that stands for a tile in every list of tiles.
  * Refused: 1, 2. */
-uint8_t nori_entry(uint32_t x, uint32_t y, uint8_t z, uint64_t *entry);
+NORI_NODISCARD uint8_t nori_entry(uint32_t x, uint32_t y, uint8_t z, uint64_t *entry);
 
 /* The tile that a number in a list stands for.
  * Refused: 7. */
-uint8_t nori_entry_tile(uint64_t entry, uint32_t *tx, uint32_t *ty, uint8_t *tz);
+NORI_NODISCARD uint8_t nori_entry_tile(uint64_t entry, uint32_t *tx, uint32_t *ty, uint8_t *tz);
 
 /* The number of a tile counted row by row, from the root on: (4^z - 1) / 3 + x + y * 2^z.
  * Refused: 1, 2. */
-uint8_t nori_xyz2rmid(uint32_t x, uint32_t y, uint8_t z, uint64_t *rmid);
+NORI_NODISCARD uint8_t nori_xyz2rmid(uint32_t x, uint32_t y, uint8_t z, uint64_t *rmid);
 
 /* The tile of a number of nori_xyz2rmid.
  * Refused: 7. */
-uint8_t nori_rmid2xyz(uint64_t rmid, uint32_t *tx, uint32_t *ty, uint8_t *tz);
+NORI_NODISCARD uint8_t nori_rmid2xyz(uint64_t rmid, uint32_t *tx, uint32_t *ty, uint8_t *tz);
 
 /* The zoom of a number of nori_xyz2rmid, and its place among the tiles of that zoom, from 0 on.
  * Refused: 7. */
-uint8_t nori_int_2_offset_zoom(uint64_t rmid, uint64_t *offset, uint8_t *zoom);
+NORI_NODISCARD uint8_t nori_int_2_offset_zoom(uint64_t rmid, uint64_t *offset, uint8_t *zoom);
 
 /* ---------------------------------------------------------------------------------------------- */
 
@@ -283,15 +310,15 @@ uint8_t nori_int_2_offset_zoom(uint64_t rmid, uint64_t *offset, uint8_t *zoom);
 
 /* The cursor that starts at the parent of a tile; at its end for the root.
  * Refused: 1, 2. */
-uint8_t nori_iter_parents(uint32_t x, uint32_t y, uint8_t z, uint8_t *count, uint32_t *tx,
-                          uint32_t *ty, uint8_t *tz);
+NORI_NODISCARD uint8_t nori_iter_parents(uint32_t x, uint32_t y, uint8_t z, uint8_t *count,
+                                         uint32_t *tx, uint32_t *ty, uint8_t *tz);
 
 /* What a cursor gives, the count 1 and a tile or the count 0 and zeros, and the cursor after it
  * in rest, rx, ry and rz. held is the cursor's count: any number but 0 is 1.
  * Refused: 1, 2. */
-uint8_t nori_parents_next(uint8_t held, uint32_t x, uint32_t y, uint8_t z, uint8_t *count,
-                          uint32_t *tx, uint32_t *ty, uint8_t *tz, uint8_t *rest, uint32_t *rx,
-                          uint32_t *ry, uint8_t *rz);
+NORI_NODISCARD uint8_t nori_parents_next(uint8_t held, uint32_t x, uint32_t y, uint8_t z,
+                                         uint8_t *count, uint32_t *tx, uint32_t *ty, uint8_t *tz,
+                                         uint8_t *rest, uint32_t *rx, uint32_t *ry, uint8_t *rz);
 
 /* ---------------------------------------------------------------------------------------------- */
 
@@ -299,7 +326,7 @@ uint8_t nori_parents_next(uint8_t held, uint32_t x, uint32_t y, uint8_t z, uint8
 
 /* Of any column and row: upper left 0, upper right 1, lower left 2, lower right 3.
  * Never refused. */
-uint8_t nori_sibling_relationship(uint32_t x, uint32_t y, uint8_t *relation);
+NORI_NODISCARD uint8_t nori_sibling_relationship(uint32_t x, uint32_t y, uint8_t *relation);
 
 /* ---------------------------------------------------------------------------------------------- */
 
@@ -308,104 +335,111 @@ uint8_t nori_sibling_relationship(uint32_t x, uint32_t y, uint8_t *relation);
 
 /* The box itself, where it is one of the map: no min above its max, and no max off the map.
  * Refused: 1, 10. */
-uint8_t nori_zbox_new(uint32_t minx, uint32_t maxx, uint32_t miny, uint32_t maxy, uint8_t zoom,
-                      uint8_t *bz, uint32_t *left, uint32_t *right, uint32_t *top,
-                      uint32_t *bottom);
+NORI_NODISCARD uint8_t nori_zbox_new(uint32_t minx, uint32_t maxx, uint32_t miny, uint32_t maxy,
+                                     uint8_t zoom, uint8_t *bz, uint32_t *left, uint32_t *right,
+                                     uint32_t *top, uint32_t *bottom);
 
 /* Whether it is a box of the map: nothing but the number comes back.
  * Refused: 1, 10. */
-uint8_t nori_zbox_check(uint8_t zoom, uint32_t minx, uint32_t maxx, uint32_t miny, uint32_t maxy);
+NORI_NODISCARD uint8_t nori_zbox_check(uint8_t zoom, uint32_t minx, uint32_t maxx, uint32_t miny,
+                                       uint32_t maxy);
 
 /* The box of one tile.
  * Refused: 1, 2. */
-uint8_t nori_zbox_from_tile(uint32_t x, uint32_t y, uint8_t z, uint8_t *bz, uint32_t *left,
-                            uint32_t *right, uint32_t *top, uint32_t *bottom);
+NORI_NODISCARD uint8_t nori_zbox_from_tile(uint32_t x, uint32_t y, uint8_t z, uint8_t *bz,
+                                           uint32_t *left, uint32_t *right, uint32_t *top,
+                                           uint32_t *bottom);
 
 /* The smallest box around the listed tiles, which are of one zoom.
  * Refused: 6, 7, 8, 9. */
-uint8_t nori_zbox_from_tiles(const uint64_t *list, size_t list_count, uint8_t *bz, uint32_t *left,
-                             uint32_t *right, uint32_t *top, uint32_t *bottom);
+NORI_NODISCARD uint8_t nori_zbox_from_tiles(const uint64_t *list, size_t list_count, uint8_t *bz,
+                                            uint32_t *left, uint32_t *right, uint32_t *top,
+                                            uint32_t *bottom);
 
 /* Whether a tile lies in a box; one of another zoom does not.
  * Refused: 1, 2, 10. */
-uint8_t nori_zbox_contains_tile(uint8_t zoom, uint32_t minx, uint32_t maxx, uint32_t miny,
-                                uint32_t maxy, uint32_t x, uint32_t y, uint8_t z, uint8_t *told);
+NORI_NODISCARD uint8_t nori_zbox_contains_tile(uint8_t zoom, uint32_t minx, uint32_t maxx,
+                                               uint32_t miny, uint32_t maxy, uint32_t x, uint32_t y,
+                                               uint8_t z, uint8_t *told);
 
 /* The box with its rows counted from the other side of the map.
  * Refused: 1, 10. */
-uint8_t nori_zbox_flipy(uint8_t zoom, uint32_t minx, uint32_t maxx, uint32_t miny, uint32_t maxy,
-                        uint8_t *bz, uint32_t *left, uint32_t *right, uint32_t *top,
-                        uint32_t *bottom);
+NORI_NODISCARD uint8_t nori_zbox_flipy(uint8_t zoom, uint32_t minx, uint32_t maxx, uint32_t miny,
+                                       uint32_t maxy, uint8_t *bz, uint32_t *left, uint32_t *right,
+                                       uint32_t *top, uint32_t *bottom);
 
 /* The box of its tiles' children.
  * Refused: 1, 10. */
-uint8_t nori_zbox_zoom_in(uint8_t zoom, uint32_t minx, uint32_t maxx, uint32_t miny, uint32_t maxy,
-                          uint8_t *bz, uint32_t *left, uint32_t *right, uint32_t *top,
-                          uint32_t *bottom);
+NORI_NODISCARD uint8_t nori_zbox_zoom_in(uint8_t zoom, uint32_t minx, uint32_t maxx, uint32_t miny,
+                                         uint32_t maxy, uint8_t *bz, uint32_t *left,
+                                         uint32_t *right, uint32_t *top, uint32_t *bottom);
 
 /* The box of its tiles' descendants depth zooms down, for 0 the box itself.
  * Refused: 1, 10. */
-uint8_t nori_zbox_zoom_depth(uint8_t zoom, uint32_t minx, uint32_t maxx, uint32_t miny,
-                             uint32_t maxy, uint8_t depth, uint8_t *bz, uint32_t *left,
-                             uint32_t *right, uint32_t *top, uint32_t *bottom);
+NORI_NODISCARD uint8_t nori_zbox_zoom_depth(uint8_t zoom, uint32_t minx, uint32_t maxx,
+                                            uint32_t miny, uint32_t maxy, uint8_t depth,
+                                            uint8_t *bz, uint32_t *left, uint32_t *right,
+                                            uint32_t *top, uint32_t *bottom);
 
 /* How many tiles a box has.
  * Refused: 1, 10. */
-uint8_t nori_zbox_length(uint8_t zoom, uint32_t minx, uint32_t maxx, uint32_t miny, uint32_t maxy,
-                         uint64_t *length);
+NORI_NODISCARD uint8_t nori_zbox_length(uint8_t zoom, uint32_t minx, uint32_t maxx, uint32_t miny,
+                                        uint32_t maxy, uint64_t *length);
 
 /* The same as nori_zbox_length.
  * Refused: 1, 10. */
-uint8_t nori_zbox_size(uint8_t zoom, uint32_t minx, uint32_t maxx, uint32_t miny, uint32_t maxy,
-                       uint64_t *length);
+NORI_NODISCARD uint8_t nori_zbox_size(uint8_t zoom, uint32_t minx, uint32_t maxx, uint32_t miny,
+                                      uint32_t maxy, uint64_t *length);
 
 /* The greatest x less the least: one less than the columns.
  * Refused: 1, 10. */
-uint8_t nori_zbox_dx(uint8_t zoom, uint32_t minx, uint32_t maxx, uint32_t miny, uint32_t maxy,
-                     uint32_t *across);
+NORI_NODISCARD uint8_t nori_zbox_dx(uint8_t zoom, uint32_t minx, uint32_t maxx, uint32_t miny,
+                                    uint32_t maxy, uint32_t *across);
 
 /* The greatest y less the least: one less than the rows.
  * Refused: 1, 10. */
-uint8_t nori_zbox_dy(uint8_t zoom, uint32_t minx, uint32_t maxx, uint32_t miny, uint32_t maxy,
-                     uint32_t *down);
+NORI_NODISCARD uint8_t nori_zbox_dy(uint8_t zoom, uint32_t minx, uint32_t maxx, uint32_t miny,
+                                    uint32_t maxy, uint32_t *down);
 
 /* The same as nori_zbox_dx.
  * Refused: 1, 10. */
-uint8_t nori_zbox_width(uint8_t zoom, uint32_t minx, uint32_t maxx, uint32_t miny, uint32_t maxy,
-                        uint32_t *across);
+NORI_NODISCARD uint8_t nori_zbox_width(uint8_t zoom, uint32_t minx, uint32_t maxx, uint32_t miny,
+                                       uint32_t maxy, uint32_t *across);
 
 /* The same as nori_zbox_dy.
  * Refused: 1, 10. */
-uint8_t nori_zbox_height(uint8_t zoom, uint32_t minx, uint32_t maxx, uint32_t miny, uint32_t maxy,
-                         uint32_t *down);
+NORI_NODISCARD uint8_t nori_zbox_height(uint8_t zoom, uint32_t minx, uint32_t maxx, uint32_t miny,
+                                        uint32_t maxy, uint32_t *down);
 
 /* Both nori_zbox_dx and nori_zbox_dy.
  * Refused: 1, 10. */
-uint8_t nori_zbox_dxdy(uint8_t zoom, uint32_t minx, uint32_t maxx, uint32_t miny, uint32_t maxy,
-                       uint32_t *across, uint32_t *down);
+NORI_NODISCARD uint8_t nori_zbox_dxdy(uint8_t zoom, uint32_t minx, uint32_t maxx, uint32_t miny,
+                                      uint32_t maxy, uint32_t *across, uint32_t *down);
 
 /* How many columns and how many rows a box has.
  * Refused: 1, 10. */
-uint8_t nori_zbox_dimensions(uint8_t zoom, uint32_t minx, uint32_t maxx, uint32_t miny,
-                             uint32_t maxy, uint32_t *across, uint32_t *down);
+NORI_NODISCARD uint8_t nori_zbox_dimensions(uint8_t zoom, uint32_t minx, uint32_t maxx,
+                                            uint32_t miny, uint32_t maxy, uint32_t *across,
+                                            uint32_t *down);
 
 /* The box's tile behind the first before ones, x first, then y, with the count 1; after is
  * before + 1. Behind the last tile the count is 0 and after is before.
  * Refused: 1, 10. */
-uint8_t nori_zbox_next(uint8_t zoom, uint32_t minx, uint32_t maxx, uint32_t miny, uint32_t maxy,
-                       uint64_t before, uint8_t *count, uint32_t *tx, uint32_t *ty, uint8_t *tz,
-                       uint64_t *after);
+NORI_NODISCARD uint8_t nori_zbox_next(uint8_t zoom, uint32_t minx, uint32_t maxx, uint32_t miny,
+                                      uint32_t maxy, uint64_t before, uint8_t *count, uint32_t *tx,
+                                      uint32_t *ty, uint8_t *tz, uint64_t *after);
 
 /* How many tiles several boxes have together, overlaps counted twice. Five numbers a box: zoom,
  * least x, greatest x, least y, greatest y.
  * Refused: 1, 6, 10. */
-uint8_t nori_zboxes_length(const uint32_t *boxes, size_t boxes_count, uint64_t *length);
+NORI_NODISCARD uint8_t nori_zboxes_length(const uint32_t *boxes, size_t boxes_count,
+                                          uint64_t *length);
 
 /* Several boxes with their rows counted from the other side of the map. Five numbers a box, as
  * for nori_zboxes_length; count counts the numbers.
  * Refused: 1, 6, 10, 12. */
-uint8_t nori_zboxes_flipy(const uint32_t *boxes, size_t boxes_count, uint32_t *out,
-                          size_t out_places, uint64_t *count);
+NORI_NODISCARD uint8_t nori_zboxes_flipy(const uint32_t *boxes, size_t boxes_count, uint32_t *out,
+                                         size_t out_places, uint64_t *count);
 
 /* ---------------------------------------------------------------------------------------------- */
 
@@ -414,83 +448,87 @@ uint8_t nori_zboxes_flipy(const uint32_t *boxes, size_t boxes_count, uint32_t *o
 
 /* The last column, and the last row, of a zoom: 2^zoom - 1.
  * Refused: 1. */
-uint8_t nori_zoom_max_xy(uint8_t zoom, uint32_t *max);
+NORI_NODISCARD uint8_t nori_zoom_max_xy(uint8_t zoom, uint32_t *max);
 
 /* The zooms of a set, rising. A set with bit 31 is read the other way round: zoom i is bit 30 -
  * i.
  * Refused: 12. */
-uint8_t nori_zset2zvec(uint32_t zset, uint8_t *out, size_t out_places, uint64_t *count);
+NORI_NODISCARD uint8_t nori_zset2zvec(uint32_t zset, uint8_t *out, size_t out_places,
+                                      uint64_t *count);
 
 /* The zooms of a set that is read the other way round whatever its bit 31 is, rising.
  * Refused: 12. */
-uint8_t nori_zset2zvec_rev(uint32_t zset, uint8_t *out, size_t out_places, uint64_t *count);
+NORI_NODISCARD uint8_t nori_zset2zvec_rev(uint32_t zset, uint8_t *out, size_t out_places,
+                                          uint64_t *count);
 
 /* The set of the listed zooms.
  * Refused: 1, 6. */
-uint8_t nori_zvec2zset(const uint8_t *zvec, size_t zvec_length, uint32_t *zset);
+NORI_NODISCARD uint8_t nori_zvec2zset(const uint8_t *zvec, size_t zvec_length, uint32_t *zset);
 
 /* The number of the listed zooms whose bit 31 - i is zoom i.
  * Refused: 1, 6. */
-uint8_t nori_zvec2zset_rev(const uint8_t *zvec, size_t zvec_length, uint32_t *zset);
+NORI_NODISCARD uint8_t nori_zvec2zset_rev(const uint8_t *zvec, size_t zvec_length, uint32_t *zset);
 
 /* The runs of the zooms 1 to 29 of a set, which is never read the other way round: the lowest
  * zoom of each run in lows, the highest in highs.
  * Refused: 12. */
-uint8_t nori_zoom_ranges(uint32_t zset, uint8_t *lows, size_t lows_places, uint8_t *highs,
-                         size_t highs_places, uint64_t *count);
+NORI_NODISCARD uint8_t nori_zoom_ranges(uint32_t zset, uint8_t *lows, size_t lows_places,
+                                        uint8_t *highs, size_t highs_places, uint64_t *count);
 
 /* The set of all zooms, 0 to 30.
  * Never refused. */
-uint8_t nori_zset_all(uint32_t *zset);
+NORI_NODISCARD uint8_t nori_zset_all(uint32_t *zset);
 
 /* The same as nori_zvec2zset.
  * Refused: 1, 6. */
-uint8_t nori_zset_from_zooms(const uint8_t *zooms, size_t zooms_length, uint32_t *zset);
+NORI_NODISCARD uint8_t nori_zset_from_zooms(const uint8_t *zooms, size_t zooms_length,
+                                            uint32_t *zset);
 
 /* The same as nori_zset2zvec.
  * Refused: 12. */
-uint8_t nori_zset_to_zooms(uint32_t zset, uint8_t *out, size_t out_places, uint64_t *count);
+NORI_NODISCARD uint8_t nori_zset_to_zooms(uint32_t zset, uint8_t *out, size_t out_places,
+                                          uint64_t *count);
 
 /* The same as nori_zoom_ranges.
  * Refused: 12. */
-uint8_t nori_zset_zoom_ranges(uint32_t zset, uint8_t *lows, size_t lows_places, uint8_t *highs,
-                              size_t highs_places, uint64_t *count);
+NORI_NODISCARD uint8_t nori_zset_zoom_ranges(uint32_t zset, uint8_t *lows, size_t lows_places,
+                                             uint8_t *highs, size_t highs_places, uint64_t *count);
 
 /* The bits that both sets have.
  * Never refused. */
-uint8_t nori_zset_and(uint32_t a, uint32_t b, uint32_t *zset);
+NORI_NODISCARD uint8_t nori_zset_and(uint32_t a, uint32_t b, uint32_t *zset);
 
 /* The bits that a set and a number both have.
  * Never refused. */
-uint8_t nori_zset_and_bits(uint32_t a, uint32_t bits, uint32_t *zset);
+NORI_NODISCARD uint8_t nori_zset_and_bits(uint32_t a, uint32_t bits, uint32_t *zset);
 
 /* What a set has of the bit that nori_zoom_bit_rev gives, as in the Rust.
  * Refused: 1. */
-uint8_t nori_zset_and_zoom(uint32_t a, uint8_t zoom, uint32_t *zset);
+NORI_NODISCARD uint8_t nori_zset_and_zoom(uint32_t a, uint8_t zoom, uint32_t *zset);
 
 /* The set of one zoom.
  * Refused: 1. */
-uint8_t nori_zset_from_zoom(uint8_t zoom, uint32_t *zset);
+NORI_NODISCARD uint8_t nori_zset_from_zoom(uint8_t zoom, uint32_t *zset);
 
 /* The set of all zooms of a range: empty where min is above max.
  * Refused: 1. */
-uint8_t nori_zoom_set(uint8_t min, uint8_t max, uint32_t *zset);
+NORI_NODISCARD uint8_t nori_zoom_set(uint8_t min, uint8_t max, uint32_t *zset);
 
 /* The bit of one zoom in numbers of nori_zvec2zset_rev: 2^(31 - zoom).
  * Refused: 1. */
-uint8_t nori_zoom_bit_rev(uint8_t zoom, uint32_t *bit);
+NORI_NODISCARD uint8_t nori_zoom_bit_rev(uint8_t zoom, uint32_t *bit);
 
 /* The range from 0 to max.
  * Never refused. */
-uint8_t nori_zoom_range_from_max(uint8_t max, uint8_t *low, uint8_t *high);
+NORI_NODISCARD uint8_t nori_zoom_range_from_max(uint8_t max, uint8_t *low, uint8_t *high);
 
 /* The range from min to 30.
  * Never refused. */
-uint8_t nori_zoom_range_from_min(uint8_t min, uint8_t *low, uint8_t *high);
+NORI_NODISCARD uint8_t nori_zoom_range_from_min(uint8_t min, uint8_t *low, uint8_t *high);
 
 /* The range from 0 to 30.
  * Never refused. */
-uint8_t nori_zoom_range_default(uint8_t *low, uint8_t *high);
+NORI_NODISCARD uint8_t nori_zoom_range_default(uint8_t *low, uint8_t *high);
 
 /* ---------------------------------------------------------------------------------------------- */
 
@@ -499,43 +537,46 @@ uint8_t nori_zoom_range_default(uint8_t *low, uint8_t *high);
 
 /* Whether a box goes over the antimeridian: its west is above its east.
  * Never refused. */
-uint8_t nori_bbox_crosses_antimeridian(double west, double south, double east, double north,
-                                       uint8_t *told);
+NORI_NODISCARD uint8_t nori_bbox_crosses_antimeridian(double west, double south, double east,
+                                                      double north, uint8_t *told);
 
 /* The same as nori_bbox_crosses_antimeridian.
  * Never refused. */
-uint8_t nori_bbox_is_antimeridian(double west, double south, double east, double north,
-                                  uint8_t *told);
+NORI_NODISCARD uint8_t nori_bbox_is_antimeridian(double west, double south, double east,
+                                                 double north, uint8_t *told);
 
 /* Whether a point lies in a box or on its edge; in one that crosses the antimeridian, from west
  * on or up to east.
  * Never refused. */
-uint8_t nori_bbox_contains_lnglat(double west, double south, double east, double north, double lng,
-                                  double lat, uint8_t *told);
+NORI_NODISCARD uint8_t nori_bbox_contains_lnglat(double west, double south, double east,
+                                                 double north, double lng, double lat,
+                                                 uint8_t *told);
 
 /* Whether the second box's edges lie inside the first's; where only the first crosses the
  * antimeridian, from its west on or up to its east.
  * Never refused. */
-uint8_t nori_bbox_contains_bbox(double west, double south, double east, double north,
-                                double western, double southern, double eastern, double northern,
-                                uint8_t *told);
+NORI_NODISCARD uint8_t nori_bbox_contains_bbox(double west, double south, double east, double north,
+                                               double western, double southern, double eastern,
+                                               double northern, uint8_t *told);
 
 /* Whether the first box's edges lie inside the second's, with no notice of the antimeridian.
  * Never refused. */
-uint8_t nori_bbox_is_within(double west, double south, double east, double north, double western,
-                            double southern, double eastern, double northern, uint8_t *told);
+NORI_NODISCARD uint8_t nori_bbox_is_within(double west, double south, double east, double north,
+                                           double western, double southern, double eastern,
+                                           double northern, uint8_t *told);
 
 /* Whether two boxes meet, if only at an edge, with no notice of the antimeridian.
  * Never refused. */
-uint8_t nori_bbox_intersects(double west, double south, double east, double north, double western,
-                             double southern, double eastern, double northern, uint8_t *told);
+NORI_NODISCARD uint8_t nori_bbox_intersects(double west, double south, double east, double north,
+                                            double western, double southern, double eastern,
+                                            double northern, uint8_t *told);
 
 /* The box itself with the count 1 and a second box of zeros; where it crosses the antimeridian,
  * the part up to there and the part from there on with the count 2.
  * Never refused. */
-uint8_t nori_bbox_bboxes(double west, double south, double east, double north, uint8_t *count,
-                         double *w1, double *s1, double *e1, double *n1, double *w2, double *s2,
-                         double *e2, double *n2);
+NORI_NODISCARD uint8_t nori_bbox_bboxes(double west, double south, double east, double north,
+                                        uint8_t *count, double *w1, double *s1, double *e1,
+                                        double *n1, double *w2, double *s2, double *e2, double *n2);
 
 /* ---------------------------------------------------------------------------------------------- */
 
@@ -546,20 +587,21 @@ uint8_t nori_bbox_bboxes(double west, double south, double east, double north, u
 /* One pass: each four siblings of a zoom above minzoom become their parent. changed says whether
  * any did.
  * Refused: 6, 7, 12. */
-uint8_t nori_merge(const uint64_t *list, size_t list_count, uint8_t minzoom, uint64_t *out,
-                   size_t out_places, uint64_t *count, uint8_t *changed);
+NORI_NODISCARD uint8_t nori_merge(const uint64_t *list, size_t list_count, uint8_t minzoom,
+                                  uint64_t *out, size_t out_places, uint64_t *count,
+                                  uint8_t *changed);
 
 /* Drops each tile of a zoom z above minzoom that has a listed ancestor of zoom 0 to z - 1 -
  * minzoom, then merges by nori_merge until nothing changes.
  * Refused: 6, 7, 12. */
-uint8_t nori_simplify_v1(const uint64_t *list, size_t list_count, uint8_t minzoom, uint64_t *out,
-                         size_t out_places, uint64_t *count);
+NORI_NODISCARD uint8_t nori_simplify_v1(const uint64_t *list, size_t list_count, uint8_t minzoom,
+                                        uint64_t *out, size_t out_places, uint64_t *count);
 
 /* Drops each tile that has a listed ancestor, then merges four siblings wherever their parent's
  * zoom is at least minzoom. At 0 the answer is settled.
  * Refused: 6, 7, 12. */
-uint8_t nori_simplify(const uint64_t *list, size_t list_count, uint8_t minzoom, uint64_t *out,
-                      size_t out_places, uint64_t *count);
+NORI_NODISCARD uint8_t nori_simplify(const uint64_t *list, size_t list_count, uint8_t minzoom,
+                                     uint64_t *out, size_t out_places, uint64_t *count);
 
 /* ---------------------------------------------------------------------------------------------- */
 
@@ -570,25 +612,28 @@ uint8_t nori_simplify(const uint64_t *list, size_t list_count, uint8_t minzoom, 
 /* The settled list of the ground in either list. out needs a place for each entry of both; those
  * that the answer leaves are set to 0.
  * Refused: 6, 7, 11, 12. */
-uint8_t nori_union(const uint64_t *a, size_t a_count, const uint64_t *b, size_t b_count,
-                   uint64_t *out, size_t out_places, uint64_t *count);
+NORI_NODISCARD uint8_t nori_union(const uint64_t *a, size_t a_count, const uint64_t *b,
+                                  size_t b_count, uint64_t *out, size_t out_places,
+                                  uint64_t *count);
 
 /* The settled list of the ground in both lists. out needs a place for each entry of both; those
  * that the answer leaves are set to 0.
  * Refused: 6, 7, 11, 12. */
-uint8_t nori_common_part(const uint64_t *a, size_t a_count, const uint64_t *b, size_t b_count,
-                         uint64_t *out, size_t out_places, uint64_t *count);
+NORI_NODISCARD uint8_t nori_common_part(const uint64_t *a, size_t a_count, const uint64_t *b,
+                                        size_t b_count, uint64_t *out, size_t out_places,
+                                        uint64_t *count);
 
 /* The settled list of the ground in a and not in b, which may have more entries than both lists
  * together: at most one for each of a, and 3 * NORI_MAX_ZOOM for each of b. With so many places
  * it is made a little faster.
  * Refused: 6, 7, 11, 12. */
-uint8_t nori_difference(const uint64_t *a, size_t a_count, const uint64_t *b, size_t b_count,
-                        uint64_t *out, size_t out_places, uint64_t *count);
+NORI_NODISCARD uint8_t nori_difference(const uint64_t *a, size_t a_count, const uint64_t *b,
+                                       size_t b_count, uint64_t *out, size_t out_places,
+                                       uint64_t *count);
 
 /* Whether a list is settled.
  * Refused: 6, 7. */
-uint8_t nori_is_settled(const uint64_t *list, size_t list_count, uint8_t *settled);
+NORI_NODISCARD uint8_t nori_is_settled(const uint64_t *list, size_t list_count, uint8_t *settled);
 
 /* ---------------------------------------------------------------------------------------------- */
 
@@ -598,20 +643,20 @@ uint8_t nori_is_settled(const uint64_t *list, size_t list_count, uint8_t *settle
 
 /* Whether a line is refused before any key is read: nothing but the number comes back.
  * Refused: 13, 14, 15. */
-uint8_t nori_form_check(const uint8_t *line, size_t line_length);
+NORI_NODISCARD uint8_t nori_form_check(const uint8_t *line, size_t line_length);
 
 /* The settled list of a line's form. Each list on the way has NORI_FORM_PLACES places, and out
  * may have any number. 13, 14 and 15 come before the others, and of those the first from the
  * left.
  * Refused: 4, 5, 12, 13, 14, 15. */
-uint8_t nori_form_area(const uint8_t *line, size_t line_length, uint64_t *out, size_t out_places,
-                       uint64_t *count);
+NORI_NODISCARD uint8_t nori_form_area(const uint8_t *line, size_t line_length, uint64_t *out,
+                                      size_t out_places, uint64_t *count);
 
 /* What is printed for a line, without a newline: the count and the keys of its area, as (2 3
  * 01), or its refusal, as (refused 15).
  * Refused: 12. */
-uint8_t nori_form_answer(const uint8_t *line, size_t line_length, uint8_t *out, size_t out_places,
-                         uint64_t *count);
+NORI_NODISCARD uint8_t nori_form_answer(const uint8_t *line, size_t line_length, uint8_t *out,
+                                        size_t out_places, uint64_t *count);
 
 /* Takes in a chunk of the input behind a line of which line holds len bytes, 0 at first, and
  * writes the answers of the lines that end in it, each with its newline. next bytes of the chunk
@@ -619,15 +664,16 @@ uint8_t nori_form_answer(const uint8_t *line, size_t line_length, uint8_t *out, 
  * of room it may take in less than the chunk, but some of it where out has 32 * NORI_FORM_PLACES
  * places.
  * Never refused. */
-uint8_t nori_form_feed(const uint8_t *chunk, size_t chunk_length,
-                       uint8_t *line /* NORI_KEPT places */, size_t len, uint8_t *out,
-                       size_t out_places, uint64_t *next, uint64_t *kept, uint64_t *filled);
+NORI_NODISCARD uint8_t nori_form_feed(const uint8_t *chunk, size_t chunk_length,
+                                      uint8_t *line /* NORI_KEPT places */, size_t len,
+                                      uint8_t *out, size_t out_places, uint64_t *next,
+                                      uint64_t *kept, uint64_t *filled);
 
 /* The end of the input: the answer of a last line without newline, of which line holds len
  * bytes. Where len is 0 there is none.
  * Refused: 12. */
-uint8_t nori_form_finish(const uint8_t *line /* NORI_KEPT places */, size_t len, uint8_t *out,
-                         size_t out_places, uint64_t *count);
+NORI_NODISCARD uint8_t nori_form_finish(const uint8_t *line /* NORI_KEPT places */, size_t len,
+                                        uint8_t *out, size_t out_places, uint64_t *count);
 
 #ifdef __cplusplus
 }

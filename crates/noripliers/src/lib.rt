@@ -4,6 +4,10 @@
 // A call returns 0 where it is accepted, and otherwise the number of its refusal: of several that apply, the lowest. Each value
 // comes back through a pointer. Where the call is refused it is 0, and lent memory is as it was before.
 //
+// So look at every result. 0 is a value like others: for a tile, an entry and a key's length it is the root, and a list with a
+// refusal that went unseen covers the whole map. Each call is marked NORI_NODISCARD: a compiler of C23, of C++17, gcc and clang
+// warn of a result that is not used.
+//
 // A list is a pointer and a count of entries, lent memory a pointer and a count of places; a key, a line and a chunk are bytes and
 // a length. An answer goes to the front of the lent memory, which needs a place for each of its entries, and its count of entries
 // comes back; the places behind it stay as they were. Where a call needs or sets more, its comment says so. A list of tiles holds
