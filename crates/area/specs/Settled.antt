@@ -12,7 +12,7 @@ use Rattle.bits.specs.Tests.{and-parts, allOf, all-in, in-all, in-map, into-map
 use Rattle.constants.specs.Limits.{maxZoom}
 use Rattle.ground.specs.Ground.{Settled}
 use Rattle.ground.specs.Largest.{Full, parents-not-full}
-use Rattle.ground.specs.Theorems.{settled-list-settled}
+use Rattle.ground.specs.Theorems.{settled-list-settled, ground-is-covered}
 use Rattle.ids.specs.Entry.{entryTile, isEntry, entry-accepted}
 use Rattle.settled.specs.Laws.{noneBeside, noneWith, apart-beside, beside-apart, four-with, with-four}
 use Rattle.settled.specs.Order.{is-before, before-is}
@@ -24,12 +24,18 @@ use Rattle.tile_list.specs.List.{listed}
 use Rattle.tile_set.specs.InOrder.{Ordered}
 use Rattle.tile_set.specs.Merged.{Apart, is-false, whole-all}
 use Rattle.tile_set.specs.Set.{ancestor, parentTile, child, whole}
+use Rattle.tile_set.specs.Theorems.{Covered}
 
 in-tiles : (list : List ℕ) (t : Tile) → List·Memᴰ t (tilesOf list) → listed list t ≡ true
 in-tiles list t m = let s = in-map entryTile list m in names entryTile list (s .0) t (s .1) (sym (s .2))
 
 tiles-in : (list : List ℕ) (t : Tile) → listed list t ≡ true → List·Memᴰ t (tilesOf list)
 tiles-in list t e = let s = named-by entryTile list t e in Memᴰ·cast (sym (s .2)) (into-map entryTile list (s .1))
+
+-- the ground of a list that 7 does not refuse is what the theorems on `merge` and `simplify` call covered by the set of its tiles
+pub ground-of-listed : (list : List ℕ) → allOf isEntry list ≡ true → (X Y : ℕ) → (groundOf list X Y ≡ true) ↔ Covered maxZoom (listed list) X Y
+ground-of-listed list e =
+    ground-is-covered maxZoom (tilesOf list) (listed list) (λ t. (tiles-in list t, in-tiles list t)) (λ t m. listed-within list e t (in-tiles list t m))
 
 rises-ordered : (list : List ℕ) → strictlyInOrder list ≡ true → Ordered (tilesOf list)
 unfolding strictlyInOrder

@@ -1,4 +1,5 @@
 -- The one settled list of a ground, over any deepest zoom D: it is there for every set, only one is, and no list of tiles with that ground is shorter.
+-- Last, that the ground of a list is what the theorems on sets of tiles call covered.
 use mathlib.Core.Path.{_≡_, refl, sym, ap, _∙_, subst}
 use mathlib.Core.Logic.{_↔_}
 use mathlib.Core.Bool.{Bool, true}
@@ -18,6 +19,7 @@ use Rattle.tile_set.specs.Holds.{Holds, holds-trans, holds-both, holds-level, p
 use Rattle.tile_set.specs.InOrder.{in-order-of, in-order-in, in-order-ordered, in-order-is}
 use Rattle.tile_set.specs.Merged.{bool-ext}
 use Rattle.tile_set.specs.Set.{parentTile, child}
+use Rattle.tile_set.specs.Theorems.{Covered}
 
 -- the tiles of a list cover a set that is its ground
 list-covers : {D : ℕ} {G : ℕ → ℕ → Bool} (l : List Tile) → ((t : Tile) → List·Memᴰ t l → Valid D t) → Same D (ground D l) G
@@ -138,3 +140,11 @@ module _ (D : ℕ) where
           let b = cell-on-map (s .of-map p m) c in
           let t = L .covers _ _ (b .0) (b .1) (C .covered _ _ p m c) in
           (t .0, t .1, under p (t .0) m (t .1) c (t .2))
+
+  -- the ground of a list of tiles of the map is what the set of its tiles covers
+  pub ground-is-covered : (l : List Tile) (S : Tile → Bool) → ((t : Tile) → (S t ≡ true) ↔ List·Memᴰ t l) → ((t : Tile) → List·Memᴰ t l → Valid D t)
+      → (X Y : ℕ) → (ground D l X Y ≡ true) ↔ Covered D S X Y
+  ground-is-covered l S same v X Y = (
+    λ e. let r = ground-of l X Y v e in (r .0, same (r .0) .1 (r .1), r .2),
+    λ c. ground-in l X Y (c .0) (same (c .0) .0 (c .1)) (c .2),
+  )

@@ -20,7 +20,7 @@ use Rattle.tile_set.specs.InOrder.{Ordered, in-order-of, in-order-in, in-order-
 use Rattle.tile_set.specs.Merged.{Within, is-false, bool-ext, merged-within, passes-within}
 use Rattle.tile_set.specs.Set.{inOrder, joins, whole, merged, uncovered, simplified, simplifiedV1}
 use Rattle.tile_set.specs.Simplified.{simplified-within}
-use Rattle.tile_set.specs.Theorems.{ground, merge-keeps-ground, simplify-keeps-ground, simplify-still, simplify-v1-keeps-ground, simplify-v1-still, merge-changes, merge-takes, settled-at-0}
+use Rattle.tile_set.specs.Theorems.{Covered, merge-keeps-ground, simplify-keeps-ground, simplify-still, simplify-v1-keeps-ground, simplify-v1-still, merge-changes, merge-takes, settled-at-0}
 use Rattle.tile_set.specs.Uncovered.{uncovered-within}
 use Rattle.merge.specs.Laws.{joins-in}
 use Rattle.merge.specs.Merge.{mergeChanges}
@@ -101,7 +101,7 @@ module _ (list : List ℕ) (accepted : allOf isEntry list ≡ true) (m : ℕ) wh
   merged-names : listed (entriesInOrder (merged m S)) ≡ merged m S
   merged-names = an-answer-names-its-set (merged m S) (merged-within m S within)
 
-  pub merge-keeps-the-ground : (X Y : ℕ) → ground maxZoom S X Y ↔ ground maxZoom (listed (entriesInOrder (merged m S))) X Y
+  pub merge-keeps-the-ground : (X Y : ℕ) → Covered maxZoom S X Y ↔ Covered maxZoom (listed (entriesInOrder (merged m S))) X Y
   merge-keeps-the-ground X Y = rw merged-names (merge-keeps-ground m S within X Y)
 
 -- a set in which `merge` changes nothing: its list comes back, and `changed` is false
@@ -147,11 +147,11 @@ module _ (list : List ℕ) (accepted : allOf isEntry list ≡ true) (m : ℕ) wh
       (merged-again m (simplifiedV1 maxZoom m its) simplified-v1-within still, unchanged m (simplifiedV1 maxZoom m its) simplified-v1-within still)
 
   -- "Ground": the zoom-29 tiles inside are the same
-  pub simplify-keeps-the-ground : (X Y : ℕ) → ground maxZoom its X Y ↔ ground maxZoom (listed simplifiedList) X Y
+  pub simplify-keeps-the-ground : (X Y : ℕ) → Covered maxZoom its X Y ↔ Covered maxZoom (listed simplifiedList) X Y
   simplify-keeps-the-ground X Y =
       rw (an-answer-names-its-set (simplified maxZoom m its) its-simplified-within) (simplify-keeps-ground m its its-within X Y)
 
-  pub simplify-v1-keeps-the-ground : (X Y : ℕ) → ground maxZoom its X Y ↔ ground maxZoom (listed simplifiedV1List) X Y
+  pub simplify-v1-keeps-the-ground : (X Y : ℕ) → Covered maxZoom its X Y ↔ Covered maxZoom (listed simplifiedV1List) X Y
   simplify-v1-keeps-the-ground X Y =
       rw (an-answer-names-its-set (simplifiedV1 maxZoom m its) simplified-v1-within) (simplify-v1-keeps-ground m its its-within X Y)
 

@@ -13,40 +13,41 @@ use Rattle.tile_set.specs.Set.{parentTile, child, whole, joins, joined, 
 use Rattle.tile_set.specs.Simplified.{simplified-simplest}
 use Rattle.tile_set.specs.Uncovered.{uncovered-of, uncovered-covers, uncovered-within}
 
--- "Ground means the zoom-29 tiles inside any listed tile": the tile (X, Y) of the deepest zoom D lies in a tile of the set
-abbrev pub ground : ℕ → (Tile → Bool) → ℕ → ℕ → Type 0
-ground D S X Y = (t : Tile) × (S t ≡ true) × Holds t (tileAt X Y D)
+-- "Ground means the zoom-29 tiles inside any listed tile": the tile (X, Y) of the deepest zoom D lies in a tile of the set.
+-- The crate `ground` has the ground of a list, and that it is what the set of the list's tiles covers.
+abbrev pub Covered : ℕ → (Tile → Bool) → ℕ → ℕ → Type 0
+Covered D S X Y = (t : Tile) × (S t ≡ true) × Holds t (tileAt X Y D)
 
-covers-ground : {D X Y : ℕ} (R S : Tile → Bool) → Covers R S → ground D S X Y → ground D R X Y
+covers-ground : {D X Y : ℕ} (R S : Tile → Bool) → Covers R S → Covered D S X Y → Covered D R X Y
 covers-ground R S f (t, e, h) = let r = f t e in (r .0, r .1, holds-trans (r .2) h)
 
 -- "`merge`, one pass": the ground stays
-pub merge-keeps-ground : {D : ℕ} (m : ℕ) (S : Tile → Bool) → Within D S → (X Y : ℕ) → ground D S X Y ↔ ground D (merged m S) X Y
+pub merge-keeps-ground : {D : ℕ} (m : ℕ) (S : Tile → Bool) → Within D S → (X Y : ℕ) → Covered D S X Y ↔ Covered D (merged m S) X Y
 merge-keeps-ground {D} m S w X Y =
     (covers-ground (merged m S) S (merged-covers m S), λ g. ⊎-elim (λ k. (g .0, k .0, g .2)) (part (g .0) (g .2)) (merged-cases m S (g .0) (g .1)))
   where
-    part : (t : Tile) → Holds t (tileAt X Y D) → joined m S t ≡ true → ground D S X Y
+    part : (t : Tile) → Holds t (tileAt X Y D) → joined m S t ≡ true → Covered D S X Y
     part t h k =
         let v = w (child t 0 0) (joined-four m S t k 0 0 (omega arith) (omega arith)) in
         let c = cut h (v .zoom) in
         (child t (c .0) (c .1), joined-four m S t k (c .0) (c .1) (c .2) (c .3), c .4)
 
-passes-keep-ground : {D : ℕ} (n m : ℕ) (S : Tile → Bool) → Within D S → (X Y : ℕ) → ground D S X Y ↔ ground D (passes n m S) X Y
+passes-keep-ground : {D : ℕ} (n m : ℕ) (S : Tile → Bool) → Within D S → (X Y : ℕ) → Covered D S X Y ↔ Covered D (passes n m S) X Y
 unfolding passes
 passes-keep-ground zero m S w X Y = (λ g. g, λ g. g)
 passes-keep-ground (suc n) m S w X Y =
     Iff·trans (passes-keep-ground n m S w X Y) (merge-keeps-ground m (passes n m S) (passes-within n m S w) X Y)
 
-uncovered-keeps-ground : {D : ℕ} (k : ℕ) (S : Tile → Bool) (X Y : ℕ) → ground D S X Y ↔ ground D (uncovered k S) X Y
+uncovered-keeps-ground : {D : ℕ} (k : ℕ) (S : Tile → Bool) (X Y : ℕ) → Covered D S X Y ↔ Covered D (uncovered k S) X Y
 uncovered-keeps-ground k S X Y =
     (covers-ground (uncovered k S) S (uncovered-covers k S), λ g. (g .0, uncovered-of k S (g .0) (g .1) .0, g .2))
 
-pub simplify-keeps-ground : {D : ℕ} (m : ℕ) (S : Tile → Bool) → Within D S → (X Y : ℕ) → ground D S X Y ↔ ground D (simplified D m S) X Y
+pub simplify-keeps-ground : {D : ℕ} (m : ℕ) (S : Tile → Bool) → Within D S → (X Y : ℕ) → Covered D S X Y ↔ Covered D (simplified D m S) X Y
 unfolding simplified
 simplify-keeps-ground {D} m S w X Y =
     Iff·trans (uncovered-keeps-ground 0 S X Y) (passes-keep-ground D m (uncovered 0 S) (uncovered-within 0 S w) X Y)
 
-pub simplify-v1-keeps-ground : {D : ℕ} (m : ℕ) (S : Tile → Bool) → Within D S → (X Y : ℕ) → ground D S X Y ↔ ground D (simplifiedV1 D m S) X Y
+pub simplify-v1-keeps-ground : {D : ℕ} (m : ℕ) (S : Tile → Bool) → Within D S → (X Y : ℕ) → Covered D S X Y ↔ Covered D (simplifiedV1 D m S) X Y
 unfolding simplifiedV1
 simplify-v1-keeps-ground {D} m S w X Y =
     Iff·trans (uncovered-keeps-ground m S X Y) (passes-keep-ground D m (uncovered m S) (uncovered-within m S w) X Y)
