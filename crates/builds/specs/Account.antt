@@ -1,12 +1,13 @@
 -- Document 01's plain account beside a build. It is fed with the calls alone: the operation, the caller's own lists, which earlier calls' answers go in,
 -- and the length of the lent memory. It keeps sets of zoom-29 tiles and sees nothing of what comes back.
 use mathlib.Core.Bool.{Bool, false, not, _&&_, _||_}
-use mathlib.Core.List.{List, [], _∷_, _++_}
+use mathlib.Core.List.{List}
 use Prim.Native.Nat.{ℕ, zero, suc, _+_}
 use lib.Dec.{ltb}
-use lib.ListN.{length}
+use lib.ListN.{length, getD}
 use Rattle.area.specs.Area.{groundOf, settledEntries, pairRefusal}
 use Rattle.builds.specs.Build.{Operand, own, earlier, Operation, settling, union, commonPart, difference, Call}
+use Rattle.builds.specs.InTurn.{inTurn}
 use Rattle.errors.specs.Answer.{_when_, _else_}
 use Rattle.tile_list.specs.List.{listRefusal}
 
@@ -26,10 +27,12 @@ pub record Kept : Type 0 where
 abbrev pub nothing : ℕ → ℕ → Bool
 nothing X Y = false
 
-unfoldable pub setAt : List Kept → ℕ → ℕ → ℕ → Bool
-setAt [] i = nothing
-setAt (k ∷ ks) zero = k .set
-setAt (k ∷ ks) (suc i) = setAt ks i
+-- what is read where a call was not made
+abbrev pub nothingKept : Kept
+nothingKept = record { refusal = 0; set = nothing }
+
+abbrev pub setAt : List Kept → ℕ → ℕ → ℕ → Bool
+setAt kept i = getD kept i nothingKept .set
 
 -- "A list of the caller's own stands for its ground, an answer for the set kept with it"
 abbrev pub setFor : List Kept → Operand → ℕ → ℕ → Bool
@@ -41,38 +44,44 @@ abbrev pub entriesFor : List Kept → Operand → List ℕ
 entriesFor kept (own list) = list
 entriesFor kept (earlier i) = settledEntries (setAt kept i)
 
+-- What follows is of a call whose operands stand for these sets, with these entries.
 -- "`simplify` keeps the set of the list handed in; union keeps the zoom-29 tiles in either set, common part those in both, difference those in the
 -- first and not in the second"
-abbrev pub setOf : List Kept → Operation → ℕ → ℕ → Bool
-setOf kept (settling a) X Y = setFor kept a X Y
-setOf kept (union a b) X Y = setFor kept a X Y || setFor kept b X Y
-setOf kept (commonPart a b) X Y = setFor kept a X Y && setFor kept b X Y
-setOf kept (difference a b) X Y = setFor kept a X Y && not (setFor kept b X Y)
+abbrev pub setOf : (Operand → ℕ → ℕ → Bool) → Operation → ℕ → ℕ → Bool
+setOf set (settling a) X Y = set a X Y
+setOf set (union a b) X Y = set a X Y || set b X Y
+setOf set (commonPart a b) X Y = set a X Y && set b X Y
+setOf set (difference a b) X Y = set a X Y && not (set b X Y)
 
--- the places that a call needs: one for each entry handed in, and for a difference one for each entry of its result
-abbrev pub placesFor : List Kept → Operation → ℕ
-placesFor kept (settling a) = length (entriesFor kept a)
-placesFor kept (union a b) = length (entriesFor kept a) + length (entriesFor kept b)
-placesFor kept (commonPart a b) = length (entriesFor kept a) + length (entriesFor kept b)
-placesFor kept (difference a b) = length (settledEntries (setOf kept (difference a b)))
+-- the places that it needs: one for each entry handed in, and for a difference one for each entry of its result
+abbrev pub placesFor : (Operand → ℕ → ℕ → Bool) → (Operand → List ℕ) → Operation → ℕ
+placesFor set entries (settling a) = length (entries a)
+placesFor set entries (union a b) = length (entries a) + length (entries b)
+placesFor set entries (commonPart a b) = length (entries a) + length (entries b)
+placesFor set entries (difference a b) = length (settledEntries (setOf set (difference a b)))
 
 -- refusals 6 and 7, and for two lists 11
-abbrev pub listsRefusal : List Kept → Operation → ℕ
-listsRefusal kept (settling a) = listRefusal (entriesFor kept a)
-listsRefusal kept (union a b) = pairRefusal (entriesFor kept a) (entriesFor kept b)
-listsRefusal kept (commonPart a b) = pairRefusal (entriesFor kept a) (entriesFor kept b)
-listsRefusal kept (difference a b) = pairRefusal (entriesFor kept a) (entriesFor kept b)
+abbrev pub listsRefusal : (Operand → List ℕ) → Operation → ℕ
+listsRefusal entries (settling a) = listRefusal (entries a)
+listsRefusal entries (union a b) = pairRefusal (entries a) (entries b)
+listsRefusal entries (commonPart a b) = pairRefusal (entries a) (entries b)
+listsRefusal entries (difference a b) = pairRefusal (entries a) (entries b)
 
 -- then 12
-abbrev pub refusalOf : List Kept → Told → ℕ
-refusalOf kept c = listsRefusal kept (c .asked) else 12 when ltb (c .places) (placesFor kept (c .asked))
+abbrev pub refusalOf : (Operand → ℕ → ℕ → Bool) → (Operand → List ℕ) → Told → ℕ
+refusalOf set entries c = listsRefusal entries (c .asked) else 12 when ltb (c .places) (placesFor set entries (c .asked))
 
 -- "A call to which a refusal below applies is refused and keeps nothing"
 abbrev pub keep : ℕ → (ℕ → ℕ → Bool) → Kept
 keep zero set = record { refusal = 0; set = set }
 keep (suc n) set = record { refusal = suc n; set = nothing }
 
+abbrev pub keptOf : (Operand → ℕ → ℕ → Bool) → (Operand → List ℕ) → Told → Kept
+keptOf set entries c = keep (refusalOf set entries c) (setOf set (c .asked))
+
+abbrev pub keptNext : List Kept → Told → Kept
+keptNext kept c = keptOf (setFor kept) (entriesFor kept) c
+
 -- "At first it is empty": what it has kept after the calls of a build, one after the other
-unfoldable pub account : List Kept → List Told → List Kept
-account kept [] = kept
-account kept (c ∷ calls) = account (kept ++ (keep (refusalOf kept c) (setOf kept (c .asked)) ∷ [])) calls
+abbrev pub account : List Kept → List Told → List Kept
+account kept calls = inTurn keptNext kept calls

@@ -2,14 +2,15 @@
 use mathlib.Core.Path.{_≡_, refl, sym, ap, ap₂, _∙_}
 use mathlib.Core.Bool.{Bool, not, _&&_, _||_}
 use mathlib.Core.List.{List, [], _∷_, _++_, map}
-use Prim.Native.Nat.{ℕ, zero, suc, _+_, _-_, _<_}
-use native.Mathlib.Omega.{arith}
-use lib.ListN.{length, drop, getD, replicate, length-append}
+use Prim.Native.Nat.{ℕ, zero, suc, _-_}
+use lib.ListN.{length, drop, getD, replicate}
 use lib.Seq.{take-at}
 use Rattle.area.specs.Area.{groundOf, settledEntries, pairPlacesRefusal, unionEntries, commonEntries, differenceEntries}
 use Rattle.area.specs.Grounds.{settled-ground, settled-none, simplify-entries, settled-same}
-use Rattle.builds.specs.Account.{told, Kept, setAt, setFor, entriesFor, setOf, refusalOf, keep, account}
-use Rattle.builds.specs.Build.{Operand, own, earlier, Operation, settling, union, commonPart, difference, Build, answerOf, answerAt, handedIn, performed, run}
+use Rattle.builds.specs.Account.{told, Kept, nothingKept, setAt, setFor, entriesFor, setOf, refusalOf, keep, keptNext, account}
+use Rattle.builds.specs.Build.{Operand, own, earlier, Operation, settling, union, commonPart, difference, Build}
+use Rattle.builds.specs.Build.{answerOf, nothingBack, handedIn, performed, comesBack, run}
+use Rattle.builds.specs.InTurn.{inTurn}
 use Rattle.constants.specs.Limits.{maxZoom}
 use Rattle.errors.specs.Answer.{Lent, lent}
 use Rattle.errors.specs.Laws.{else-zero}
@@ -36,19 +37,19 @@ beside-more [] (k ∷ ks) b a = absurd b
 beside-more (r ∷ rs) [] b a = absurd b
 beside-more (r ∷ rs) (k ∷ ks) b a = (b .0, beside-more rs ks (b .1) a)
 
-answer-at : (rs : List (Lent ℕ)) (ks : List Kept) → Beside rs ks → (i : ℕ) → answerAt rs i ≡ settledEntries (setAt ks i)
-unfolding answerAt setAt
-answer-at [] [] b i = sym settled-none
-answer-at [] (k ∷ ks) b i = absurd b
-answer-at (r ∷ rs) [] b i = absurd b
-answer-at (r ∷ rs) (k ∷ ks) b zero = b .0 .answer
-answer-at (r ∷ rs) (k ∷ ks) b (suc i) = answer-at rs ks (b .1) i
+-- of each call, also of none
+pub agree-at : (rs : List (Lent ℕ)) (ks : List Kept) → Beside rs ks → (i : ℕ) → Agree (getD rs i nothingBack) (getD ks i nothingKept)
+agree-at [] [] b i = record { refusal = refl; answer = sym settled-none; count = refl }
+agree-at [] (k ∷ ks) b i = absurd b
+agree-at (r ∷ rs) [] b i = absurd b
+agree-at (r ∷ rs) (k ∷ ks) b zero = b .0
+agree-at (r ∷ rs) (k ∷ ks) b (suc i) = agree-at rs ks (b .1) i
 
 -- the lists that go in are those that the account asks of, and stand for its sets
 module _ (rs : List (Lent ℕ)) (ks : List Kept) (b : Beside rs ks) where
   same-entries : (a : Operand) → handedIn rs a ≡ entriesFor ks a
   same-entries (own list) = refl
-  same-entries (earlier i) = answer-at rs ks b i
+  same-entries (earlier i) = agree-at rs ks b i .answer
 
   same-set : (a : Operand) → Same maxZoom (groundOf (entriesFor ks a)) (setFor ks a)
   same-set (own list) X Y p q = refl
@@ -71,61 +72,44 @@ agree-lent (suc n) items memory G e = record { refusal = refl; answer = sym sett
 -- one call more
 module _ (rs : List (Lent ℕ)) (ks : List Kept) (b : Beside rs ks) where
   abbrev set : Operand → ℕ → ℕ → Bool
-  set a = setFor ks a
+  set = setFor ks
 
   abbrev list : Operand → List ℕ
-  list a = entriesFor ks a
+  list = entriesFor ks
 
-  agree : (asked : Operation) (memory : List ℕ)
-      → Agree (performed rs asked memory) (keep (refusalOf ks (record { asked = asked; places = length memory })) (setOf ks asked))
+  -- the refusal of a call on memory of this length
+  abbrev refused : Operation → List ℕ → ℕ
+  refused asked memory = refusalOf set list (record { asked = asked; places = length memory })
+
+  agree : (asked : Operation) (memory : List ℕ) → Agree (performed (handedIn rs) asked memory) (keep (refused asked memory) (setOf set asked))
   unfolding placesRefusal pairPlacesRefusal
   agree (settling a) memory =
       rw (same-entries rs ks b a)
-      (agree-listed (refusalOf ks (record { asked = settling a; places = length memory })) (list a)
-      (entriesInOrder (simplified maxZoom 0 (listed (list a)))) memory (set a)
+      (agree-listed (refused (settling a) memory) (list a) (entriesInOrder (simplified maxZoom 0 (listed (list a)))) memory (set a)
       (λ e. simplify-entries (list a) (accepted-entries (list a) (else-zero _ _ e .0)) ∙ settled-same (groundOf (list a)) (set a) (same-set rs ks b a)))
   agree (union p q) memory =
       rw (same-entries rs ks b p, same-entries rs ks b q)
-      (agree-listed (refusalOf ks (record { asked = union p q; places = length memory })) (list p ++ list q) (unionEntries (list p) (list q)) memory
-      (setOf ks (union p q))
-      (λ e. settled-same (λ X Y. groundOf (list p) X Y || groundOf (list q) X Y) (setOf ks (union p q))
+      (agree-listed (refused (union p q) memory) (list p ++ list q) (unionEntries (list p) (list q)) memory (setOf set (union p q))
+      (λ e. settled-same (λ X Y. groundOf (list p) X Y || groundOf (list q) X Y) (setOf set (union p q))
       (λ X Y i j. ap₂ _||_ (same-set rs ks b p X Y i j) (same-set rs ks b q X Y i j))))
   agree (commonPart p q) memory =
       rw (same-entries rs ks b p, same-entries rs ks b q)
-      (agree-listed (refusalOf ks (record { asked = commonPart p q; places = length memory })) (list p ++ list q) (commonEntries (list p) (list q)) memory
-      (setOf ks (commonPart p q))
-      (λ e. settled-same (λ X Y. groundOf (list p) X Y && groundOf (list q) X Y) (setOf ks (commonPart p q))
+      (agree-listed (refused (commonPart p q) memory) (list p ++ list q) (commonEntries (list p) (list q)) memory (setOf set (commonPart p q))
+      (λ e. settled-same (λ X Y. groundOf (list p) X Y && groundOf (list q) X Y) (setOf set (commonPart p q))
       (λ X Y i j. ap₂ _&&_ (same-set rs ks b p X Y i j) (same-set rs ks b q X Y i j))))
   agree (difference p q) memory =
       rw (same-entries rs ks b p, same-entries rs ks b q, left)
-      (agree-lent (refusalOf ks (record { asked = difference p q; places = length memory })) (settledEntries (setOf ks (difference p q))) memory
-      (setOf ks (difference p q)) refl)
+      (agree-lent (refused (difference p q) memory) (settledEntries (setOf set (difference p q))) memory (setOf set (difference p q)) refl)
     where
-      left : differenceEntries (list p) (list q) ≡ settledEntries (setOf ks (difference p q))
+      left : differenceEntries (list p) (list q) ≡ settledEntries (setOf set (difference p q))
       left =
-          settled-same (λ X Y. groundOf (list p) X Y && not (groundOf (list q) X Y)) (setOf ks (difference p q))
+          settled-same (λ X Y. groundOf (list p) X Y && not (groundOf (list q) X Y)) (setOf set (difference p q))
           (λ X Y i j. ap₂ (λ (u v : Bool). u && not v) (same-set rs ks b p X Y i j) (same-set rs ks b q X Y i j))
 
 -- the whole build
 pub beside : (rs : List (Lent ℕ)) (ks : List Kept) → Beside rs ks → (build : Build) → Beside (run rs build) (account ks (map told build))
-unfolding run account
+unfolding inTurn
 beside rs ks b [] = b
 beside rs ks b (c ∷ build) =
-    beside (rs ++ (performed rs (c .asked) (c .memory) ∷ [])) (ks ++ (keep (refusalOf ks (told c)) (setOf ks (c .asked)) ∷ []))
+    beside (rs ++ (comesBack rs c ∷ [])) (ks ++ (keptNext ks (told c) ∷ []))
     (beside-more rs ks b (agree rs ks b (c .asked) (c .memory))) build
-
--- as many came back as calls were made
-pub run-length : (rs : List (Lent ℕ)) (build : Build) → length (run rs build) ≡ length rs + length build
-unfolding run
-run-length rs [] = omega arith
-run-length rs (c ∷ build) =
-    let e = run-length (rs ++ (performed rs (c .asked) (c .memory) ∷ [])) build in
-    e ∙ rw (length-append rs (performed rs (c .asked) (c .memory) ∷ [])) (omega arith)
-
--- of each call
-pub agree-at : (rs : List (Lent ℕ)) (ks : List Kept) → Beside rs ks → (i : ℕ) → i < length rs → (r : Lent ℕ) (k : Kept) → Agree (getD rs i r) (getD ks i k)
-agree-at [] [] b i h r k = absurd (omega arith)
-agree-at [] (q ∷ ks) b i h r k = absurd b
-agree-at (p ∷ rs) [] b i h r k = absurd b
-agree-at (p ∷ rs) (q ∷ ks) b zero h r k = b .0
-agree-at (p ∷ rs) (q ∷ ks) b (suc i) h r k = agree-at rs ks (b .1) i (omega arith) r k

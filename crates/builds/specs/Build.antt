@@ -1,9 +1,10 @@
 -- Document 01's build: a list of calls of `simplify` at m = 0, union, common part and difference, each fed lists of the caller's own or answers given
 -- earlier in the build; and what comes back of them, by the definitions that the four functions promise.
-use mathlib.Core.List.{List, [], _∷_, _++_}
-use Prim.Native.Nat.{ℕ, zero, suc}
-use lib.ListN.{take}
+use mathlib.Core.List.{List, []}
+use Prim.Native.Nat.{ℕ}
+use lib.ListN.{getD, take}
 use Rattle.area.specs.Area.{unionOf, commonOf, differenceOf}
+use Rattle.builds.specs.InTurn.{inTurn}
 use Rattle.errors.specs.Answer.{Lent}
 use Rattle.merge.specs.Merge.{simplifyOf}
 
@@ -30,25 +31,30 @@ Build = List Call
 abbrev pub answerOf : Lent ℕ → List ℕ
 answerOf r = take (r .value) (r .memory)
 
+-- what is read where a call was not made
+abbrev pub nothingBack : Lent ℕ
+nothingBack = record { number = 0; value = 0; memory = [] }
+
 -- The answer of call i. "A refused call gives no answer": its count is 0. An operand that names a refused call, or none that was made, is no build;
 -- here it is read as the empty list, so that nothing has to be assumed.
-unfoldable pub answerAt : List (Lent ℕ) → ℕ → List ℕ
-answerAt [] i = []
-answerAt (r ∷ rs) zero = answerOf r
-answerAt (r ∷ rs) (suc i) = answerAt rs i
+abbrev pub answerAt : List (Lent ℕ) → ℕ → List ℕ
+answerAt back i = answerOf (getD back i nothingBack)
 
 -- the entries of a list handed in, after the calls that came back so far
 abbrev pub handedIn : List (Lent ℕ) → Operand → List ℕ
 handedIn back (own list) = list
 handedIn back (earlier i) = answerAt back i
 
-abbrev pub performed : List (Lent ℕ) → Operation → List ℕ → Lent ℕ
-performed back (settling a) memory = simplifyOf (handedIn back a) 0 memory
-performed back (union a b) memory = unionOf (handedIn back a) (handedIn back b) memory
-performed back (commonPart a b) memory = commonOf (handedIn back a) (handedIn back b) memory
-performed back (difference a b) memory = differenceOf (handedIn back a) (handedIn back b) memory
+-- what comes back of a call whose operands are these lists
+abbrev pub performed : (Operand → List ℕ) → Operation → List ℕ → Lent ℕ
+performed list (settling a) memory = simplifyOf (list a) 0 memory
+performed list (union a b) memory = unionOf (list a) (list b) memory
+performed list (commonPart a b) memory = commonOf (list a) (list b) memory
+performed list (difference a b) memory = differenceOf (list a) (list b) memory
+
+abbrev pub comesBack : List (Lent ℕ) → Call → Lent ℕ
+comesBack back c = performed (handedIn back) (c .asked) (c .memory)
 
 -- what has come back after the calls of a build, one after the other
-unfoldable pub run : List (Lent ℕ) → Build → List (Lent ℕ)
-run back [] = back
-run back (c ∷ build) = run (back ++ (performed back (c .asked) (c .memory) ∷ [])) build
+abbrev pub run : List (Lent ℕ) → Build → List (Lent ℕ)
+run back build = inTurn comesBack back build

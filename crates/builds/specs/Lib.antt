@@ -1,3 +1,4 @@
+pub mod InTurn
 pub mod Build
 pub mod Account
 pub mod Beside

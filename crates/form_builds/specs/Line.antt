@@ -39,7 +39,7 @@ pub an-area-is-an-answer : (f : Form) → formArea f .number ≡ 0 → AnswerOfB
 an-area-is-an-answer f e =
     let g = form-gave f [] e in
     let a : Answered (buildOf f) (lastOf f) = record { made = calls-within f; accepted = g .number } in
-    let asked = an-answer-is-the-list-asked-for (buildOf f) (lastOf f) a in
+    let asked = an-answer-is-the-list-asked-for (buildOf f) (lastOf f) in
     let set = kept (buildOf f) (lastOf f) .set in
     let same : settledEntries set ≡ settledEntries (formSet f) = sym asked ∙ (g .list-given ∙ area-of-set f e) in
     record {

@@ -3,10 +3,10 @@ use mathlib.Core.Path.{_≡_, refl, sym, ap, ap₂, _∙_, subst}
 use mathlib.Core.List.{List, [], _∷_, _++_}
 use Prim.Native.Nat.{ℕ, zero, suc, _+_, _<_}
 use native.Mathlib.Omega.{arith}
-use lib.ListN.{length, getD, length-append, List·getD-append}
+use lib.ListN.{length, getD, length-append}
 use lib.Seq.{getD-append-seam}
-use Rattle.builds.specs.Beside.{run-length}
-use Rattle.builds.specs.Build.{Build, earlier, answerOf, answerAt, performed, run}
+use Rattle.builds.specs.Build.{earlier, answerOf, nothingBack, answerAt, handedIn, performed, comesBack, run}
+use Rattle.builds.specs.InTurn.{inTurn, turns-length, turns-append, turns-keep}
 use Rattle.errors.specs.Answer.{answer, Lent, _else_}
 use Rattle.errors.specs.Laws.{else-zero}
 use Rattle.form.specs.Form.{Form, tiles, pair}
@@ -16,31 +16,9 @@ use Rattle.form_area.specs.Area.{keysRefusal, runEntries, places, operated, giv
 use Rattle.form_builds.specs.Calls.{operation, call, size, last, calls}
 use Rattle.merge.specs.Merge.{simplifyOf}
 
-abbrev pub nothingBack : Lent ℕ
-nothingBack = record { number = 0; value = 0; memory = [] }
-
 -- what came back of call i
 abbrev pub back : List (Lent ℕ) → ℕ → Lent ℕ
 back rs i = getD rs i nothingBack
-
-answer-back : (rs : List (Lent ℕ)) (i : ℕ) → answerAt rs i ≡ answerOf (back rs i)
-unfolding answerAt
-answer-back [] i = refl
-answer-back (r ∷ rs) zero = refl
-answer-back (r ∷ rs) (suc i) = answer-back rs i
-
--- calls that follow change nothing of what came back
-run-append : (rs : List (Lent ℕ)) (a b : Build) → run rs (a ++ b) ≡ run (run rs a) b
-unfolding run
-run-append rs [] b = refl
-run-append rs (c ∷ a) b = run-append (rs ++ (performed rs (c .asked) (c .memory) ∷ [])) a b
-
-run-keeps : (rs : List (Lent ℕ)) (b : Build) (i : ℕ) → i < length rs → back (run rs b) i ≡ back rs i
-unfolding run
-run-keeps rs [] i h = refl
-run-keeps rs (c ∷ b) i h =
-    let r = performed rs (c .asked) (c .memory) in
-    run-keeps (rs ++ (r ∷ [])) b i (omega (arith, h, length-append rs (r ∷ []))) ∙ List·getD-append rs (r ∷ []) nothingBack i h
 
 calls-count : (n : ℕ) (f : Form) → length (calls n f) ≡ size f
 unfolding calls size
@@ -72,13 +50,13 @@ one-more : (rs : List (Lent ℕ)) (r : Lent ℕ) (i : ℕ) → i ≡ length rs �
 one-more rs r i e = rw e (getD-append-seam rs r [] nothingBack)
 
 operated-performed : (verb : Verb) (rs : List (Lent ℕ)) (i j : ℕ)
-    → performed rs (operation verb (earlier i) (earlier j)) places ≡ operated verb (answerAt rs i) (answerAt rs j) places
+    → performed (handedIn rs) (operation verb (earlier i) (earlier j)) places ≡ operated verb (answerAt rs i) (answerAt rs j) places
 operated-performed Plus rs i j = refl
 operated-performed Both rs i j = refl
 operated-performed Minus rs i j = refl
 
 pub form-gave : (f : Form) (rs : List (Lent ℕ)) → formArea f .number ≡ 0 → Gave (run rs (calls (length rs) f)) (last (length rs) f) (formArea f .value)
-unfolding formArea calls last run
+unfolding formArea calls last inTurn
 form-gave (tiles runs) rs e =
     let r = simplifyOf (runEntries runs) 0 places in
     let g = given-zero (keysRefusal runs) r e in
@@ -91,8 +69,8 @@ form-gave (pair verb f g) rs e =
     let c = call (operation verb (earlier i) (earlier j)) in
     let rs₁ = run rs (calls n f) in
     let rs₂ = run rs₁ (calls (n + size f) g) in
-    let l₁ : length rs₁ ≡ n + size f = run-length rs (calls n f) ∙ ap (λ (m : ℕ). n + m) (calls-count n f) in
-    let l₂ : length rs₂ ≡ n + size f + size g = run-length rs₁ (calls (n + size f) g) ∙ ap₂ (λ (a b : ℕ). a + b) l₁ (calls-count (n + size f) g) in
+    let l₁ : length rs₁ ≡ n + size f = turns-length comesBack rs (calls n f) ∙ ap (λ (m : ℕ). n + m) (calls-count n f) in
+    let l₂ : length rs₂ ≡ n + size f + size g = turns-length comesBack rs₁ (calls (n + size f) g) ∙ ap₂ (λ (a b : ℕ). a + b) l₁ (calls-count (n + size f) g) in
     let r = operated verb (formArea f .value) (formArea g .value) places in
     let z = given-zero (formArea f .number else formArea g .number) r e in
     let y = else-zero (formArea f .number) (formArea g .number) (z .0) in
@@ -100,14 +78,14 @@ form-gave (pair verb f g) rs e =
     let right : Gave rs₂ j (formArea g .value) =
     subst (λ (m : ℕ). Gave (run rs₁ (calls m g)) (last m g) (formArea g .value)) l₁ (form-gave g rs₁ (y .1)) in
     let a : answerAt rs₂ i ≡ formArea f .value =
-    answer-back rs₂ i ∙ (ap answerOf (run-keeps rs₁ (calls (n + size f) g) i (omega (arith, l₁, last-within n f))) ∙ left .list-given) in
-    let b : answerAt rs₂ j ≡ formArea g .value = answer-back rs₂ j ∙ right .list-given in
-    let p : performed rs₂ (c .asked) places ≡ r = operated-performed verb rs₂ i j ∙ ap₂ (λ (x y : List ℕ). operated verb x y places) a b in
-    let whole : run rs (calls n f ++ (calls (n + size f) g ++ (c ∷ []))) ≡ rs₂ ++ (performed rs₂ (c .asked) places ∷ []) =
-    run-append rs (calls n f) (calls (n + size f) g ++ (c ∷ [])) ∙ run-append rs₁ (calls (n + size f) g) (c ∷ []) in
+    ap answerOf (turns-keep comesBack rs₁ (calls (n + size f) g) nothingBack i (omega (arith, l₁, last-within n f))) ∙ left .list-given in
+    let b : answerAt rs₂ j ≡ formArea g .value = right .list-given in
+    let p : comesBack rs₂ c ≡ r = operated-performed verb rs₂ i j ∙ ap₂ (λ (x y : List ℕ). operated verb x y places) a b in
+    let whole : run rs (calls n f ++ (calls (n + size f) g ++ (c ∷ []))) ≡ rs₂ ++ (comesBack rs₂ c ∷ []) =
+    turns-append comesBack rs (calls n f) (calls (n + size f) g ++ (c ∷ [])) ∙ turns-append comesBack rs₁ (calls (n + size f) g) (c ∷ []) in
     let o : back (run rs (calls n f ++ (calls (n + size f) g ++ (c ∷ [])))) (n + size f + size g) ≡ r =
     ap (λ (l : List (Lent ℕ)). back l (n + size f + size g)) whole
-    ∙ (one-more rs₂ (performed rs₂ (c .asked) places) (n + size f + size g) (sym l₂) ∙ p) in
+    ∙ (one-more rs₂ (comesBack rs₂ c) (n + size f + size g) (sym l₂) ∙ p) in
     record { number = ap (λ (l : Lent ℕ). l .number) o ∙ z .1; list-given = ap answerOf o ∙ sym (z .2) }
 
 -- the last call of a form's build is one of its calls
