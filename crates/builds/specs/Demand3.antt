@@ -1,6 +1,6 @@
 -- Demand 3, as one theorem about whole builds: `demand-3`. What a build is and what comes back of it stands in `Build`, the plain account
--- in `Account`; ground and settled in the crate `ground`, over any deepest zoom.
-use mathlib.Core.Path.{_≡_, refl, sym, ap, ap₂, _∙_}
+-- in `Account`, what the refusals mean in `Refusals`; ground and settled in the crate `ground`, over any deepest zoom.
+use mathlib.Core.Path.{_≡_, refl, sym, ap, ap₂, _∙_, subst}
 use mathlib.Core.Logic.{_↔_}
 use mathlib.Core.Bool.{Bool, true, false, cond, not, _&&_, _||_}
 use mathlib.Core.List.{List, [], _++_, map, map-append, List·Memᴰ}
@@ -18,6 +18,7 @@ use Rattle.builds.specs.Beside.{Agree, beside, agree-at}
 use Rattle.builds.specs.Build.{Operand, own, earlier, Operation, settling, union, commonPart, difference, Call, Build}
 use Rattle.builds.specs.Build.{answerOf, nothingBack, handedIn, performed, comesBack, run}
 use Rattle.builds.specs.InTurn.{turns-length, turns-append, turns-keep, standing, turn-at, turn-before}
+use Rattle.builds.specs.Refusals.{Refuses, what-comes-back-is-refused}
 use Rattle.constants.specs.Limits.{maxZoom}
 use Rattle.errors.specs.Answer.{Lent}
 use Rattle.ground.specs.Ground.{ground, Same, Settled}
@@ -70,6 +71,12 @@ abbrev pub entriesNamed : Build → ℕ → Operand → List ℕ
 entriesNamed build k (own list) = list
 entriesNamed build k (earlier i) = settledEntries (setNamed build k (earlier i))
 
+-- the number that came back of call k is the lowest that applies to the lists named and to the memory lent
+abbrev pub RefusedByWords : Build → ℕ → Type 0
+RefusedByWords build k =
+    let c = callAt build k in
+    Refuses (λ a. groundOf (listNamed build k a)) (listNamed build k) (c .asked) (length (c .memory)) (returned build k .number)
+
 -- The clauses on answers hold of refused calls too: their answer is read as the empty list, and the account keeps the empty set for them.
 -- Clauses that need a call to be made, or accepted, say so.
 pub record Demand3 (one other : Build) : Type 0 where
@@ -81,8 +88,9 @@ pub record Demand3 (one other : Build) : Type 0 where
       → (returned (one ++ later) k ≡ returned one k) × (kept (one ++ later) k ≡ kept one k)
   -- "fed with the calls alone": what the account keeps of a call is made of what it is told of it and of the sets named
   pub fed-alone : (k : ℕ) → k < length one → kept one k ≡ keptOf (setNamed one k) (entriesNamed one k) (told (callAt one k))
-  -- "Just those calls are refused that the paper refuses", each with the account's number
+  -- "Just those calls are refused that the paper refuses", each with the account's number; and by what the numbers mean, of the lists named
   pub refusals : (k : ℕ) → returned one k .number ≡ kept one k .refusal
+  pub refused-by-words : (k : ℕ) → k < length one → RefusedByWords one k
   -- "each answer is settled"
   pub settled : (k : ℕ) → Settled maxZoom (tilesOf (answer one k))
   -- "and covers exactly the zoom-29 tiles that the paper's plain account, fed with the calls alone, keeps for it"
@@ -154,6 +162,12 @@ module _ (build : Build) (k : ℕ) (made : k < length build) where
       ∙ ap₂ (λ (set : Operand → ℕ → ℕ → Bool) (entries : Operand → List ℕ). keptOf set entries (told (callAt build k)))
       (λ i a. handed-set a i) (λ i a. handed-entries a i))
 
+  call-refused : RefusedByWords build k
+  call-refused =
+      let c = callAt build k in
+      subst (Refuses (λ a. groundOf (listNamed build k a)) (listNamed build k) (c .asked) (length (c .memory)))
+      (ap (λ (r : Lent ℕ). r .number) (sym call-returned)) (what-comes-back-is-refused (listNamed build k) (c .asked) (c .memory))
+
 keep-accepted : (n : ℕ) (G : ℕ → ℕ → Bool) → keep n G .refusal ≡ 0 → keep n G .set ≡ G
 keep-accepted zero G e = refl
 keep-accepted (suc n) G e = absurd (omega (arith, e))
@@ -195,6 +209,7 @@ demand-3 one other = record {
   stays = calls-later one;
   fed-alone = call-kept one;
   refusals = λ k. agreed one k .refusal;
+  refused-by-words = call-refused one;
   settled = its-list one;
   ground-kept = its-ground one;
   of-the-list = λ k a t X Y p q. covers one k (settling a) t X Y p q ∙ same-named one k a X Y p q;
