@@ -5,7 +5,7 @@ use Prim.Native.Nat.{ℕ, _+_, _-_, _≤_, _<_}
 use native.Mathlib.Numerals.{add-one}
 use native.Mathlib.Omega.{arith}
 use lib.ListN.{length, take, getD}
-use lib.Seq.{sets, length-sets, take-all, take-suc}
+use lib.Seq.{sets, take-all, take-suc}
 use Rattle.constants.specs.Limits.{maxZoom}
 use Rattle.quadtree.specs.Numbers.{placeOf, placeTile}
 use Rattle.settle.specs.Places.{lowOf, startOf}
@@ -45,9 +45,6 @@ module _ (kept gone before : List ℕ) where
       come = λ j a b. come-on (w .come) (omega (arith, runs .each i h .again, runs .rise i j (omega arith) b));
       wrote = rw (without-next kept gone i h) (wrote-both (m .wrote) (w .wrote));
     }
-
-    pub kept-length : length after ≡ length before
-    kept-length = ap length (m .wrote .written) ∙ length-sets before 0 (map placeOf (without (take i kept) gone))
 
     pub ended : length kept ≤ i → (count ≡ length (without kept gone)) × (after ≡ sets before 0 (map placeOf (without kept gone)))
     ended h =

@@ -1,23 +1,25 @@
 -- The steps of the walk at a tile, by its place k and half its run: the tile is kept, dropped, or handed to its four children.
 use mathlib.Core.Path.{_≡_, sym, ap, _∙_}
 use mathlib.Core.Bool.{true, false}
-use mathlib.Core.List.{List, [], _∷_, map}
-use Prim.Native.Nat.{ℕ, suc, _+_, _-_, _*_, _/_, _≤_, _<_}
+use mathlib.Core.List.{List, [], _∷_, _++_, map, append-assoc}
+use Prim.Native.Nat.{ℕ, zero, suc, _+_, _-_, _*_, _/_, _%_, _≤_, _<_}
+use native.Mathlib.Nat.{mul-le-mul-right}
 use native.Mathlib.Decide.{decLt}
+use native.Mathlib.Numerals.{add-one}
 use native.Mathlib.Omega.{arith}
 use lib.ListN.{length, set}
 use Rattle.constants.specs.Limits.{maxZoom}
 use Rattle.quadtree.specs.Laws.{place-tile}
-use Rattle.quadtree.specs.Numbers.{placeOf, placeTile}
-use Rattle.settle.specs.Places.{lowOf, startOf, endOf, low-child, place-child, IsPlace, tile-place, Room, room}
+use Rattle.quadtree.specs.Numbers.{OfMap, placeOf, placeTile}
+use Rattle.settle.specs.Places.{lowOf, startOf, endOf, low-child, place-child, tile-place, Room, room}
 use Rattle.settle.specs.Settle.{tiles}
 use Rattle.tile.specs.declared.Tile.{Tile}
 use Rattle.tile_list.specs.Laws.{valid-tile, map-tile}
 use Rattle.tile_set.specs.Holds.{valid-child}
 use Rattle.tile_set.specs.Set.{child}
-use Rattle.difference.specs.Left.{leftOf, leftAt, fourAt}
+use Rattle.difference.specs.Left.{ofFour, leftOf, leftAt, fourAt}
 use Rattle.difference.specs.Touch.{past-all, before-next, in-next, over-next, not-deepest}
-use Rattle.difference.specs.Walk.{Behind, Come, Wrote, AtTile, AtFour, Clear, Walked, behind-on, come-on, wrote-none, wrote-one, wrote-both}
+use Rattle.difference.specs.Walk.{Behind, Come, AtTile, AtFour, Clear, Walked, behind-on, come-on, wrote-none, wrote-one, wrote-both}
 
 pub passed-on : {gone : List ℕ} {k low from next count : ℕ} → AtTile gone k low from count → Behind gone (k - low) next → AtTile gone k low next count
 passed-on a b = record { place = a .place; half = a .half; runs = a .runs; come = record { behind = b; few = a .come .few } }
@@ -87,54 +89,93 @@ module _ {gone : List ℕ} {k low next count : ℕ} (a : AtTile gone k low next 
           let o = over-next gone (a .runs) t (a .place .of-map) (maxZoom - suc (t .z)) next behind h begins ends (omega (arith, a .half)) in
           record { come = come-on (w .come) (omega (arith, quarters)); wrote = rw (d, o) (w .wrote) }
 
--- m is the place of a child of the tile at k, and half the child's run is q long
-pub record ChildPlace (k q m i j : ℕ) : Type 0 where
-  pub place : IsPlace m
-  pub tile : placeTile m ≡ child (placeTile k) i j
-  pub half : q ≡ lowOf (placeTile m)
+-- child n in the quadtree's order
+abbrev nth : Tile → ℕ → Tile
+nth t n = child t (n % 2) (n / 2)
+
+-- one list of each of the first n children, in the quadtree's order
+unfoldable pub ofFirst : (Tile → List Tile) → Tile → ℕ → List Tile
+ofFirst f t zero = []
+ofFirst f t (suc n) = ofFirst f t n ++ f (nth t n)
+
+of-first-four : (f : Tile → List Tile) (t : Tile) → ofFirst f t 4 ≡ ofFour f t
+unfolding ofFirst
+of-first-four f t = simp append-assoc
+
+-- the place of child n of the tile at place k. Half the child's run is q long
+abbrev pub childAt : ℕ → ℕ → ℕ → ℕ
+childAt k q n = k - 3 * q + 2 * n * q
+
+-- what is left of a child of the tile at place k
+abbrev leftBelow : List ℕ → ℕ → Tile → List Tile
+leftBelow gone k = leftOf (maxZoom - suc (placeTile k .z)) (map placeTile gone)
+
+-- the walk stands at the start of child n of the tile at place k, or at the tile's end where n is 4. What is left of the first n children is written
+pub record AtChild (gone : List ℕ) (k q count : ℕ) (before after : List ℕ) (n next c : ℕ) : Type 0 where
+  pub most : n ≤ 4
+  pub walked : Walked (ofFirst (leftBelow gone k) (placeTile k) n) gone (k - 4 * q + 2 * n * q) count before after next c
 
 module _ {gone : List ℕ} {k q next count : ℕ} (a : AtFour gone k q next count) where
-  child-place : (m i j : ℕ) → i < 2 → j < 2 → m + 3 * q ≡ k + 2 * ((2 * j + i) * q) → ChildPlace k q m i j
-  child-place m i j x y f =
-      let c = child (placeTile k) i j in
-      let o = map-tile c (valid-child i j (valid-tile (placeTile k) (a .place .of-map)) (a .higher) x y) in
-      let l : q ≡ lowOf c = omega (arith, a .half, low-child (placeTile k) (a .higher) i j) in
-      let p : placeOf c + 3 * q ≡ k + 2 * ((2 * j + i) * q) = rw (← l, a .place .again) at (place-child (placeTile k) (a .higher) i j x y) in
-      let g : m ≡ placeOf c = omega (arith, p) in
-      let u : placeTile m ≡ c = ap placeTile g ∙ place-tile c o in
-      record { place = rw g (tile-place c o); tile = u; half = l ∙ ap lowOf (sym u) }
-
   pub around : Room k (4 * q)
   around = room (a .place) (a .half)
 
-  pub first : ChildPlace k q (k - 3 * q) 0 0
-  first = child-place (k - 3 * q) 0 0 (omega arith) (omega arith) (omega (arith, around .below))
+  pub before-children : (l : List ℕ) → AtChild gone k q count l l 0 next count
+  unfolding ofFirst
+  before-children l = record { most = omega arith; walked = record { come = come-on (a .come) (omega arith); wrote = wrote-none count l } }
 
-  pub second : ChildPlace k q (k - q) 1 0
-  second = child-place (k - q) 1 0 (omega arith) (omega arith) (omega (arith, around .below))
+  module _ (n : ℕ) (h : n < 4) where
+    abbrev c : Tile
+    c = nth (placeTile k) n
 
-  pub third : ChildPlace k q (k + q) 0 1
-  third = child-place (k + q) 0 1 (omega arith) (omega arith) (omega arith)
+    of-map : OfMap c
+    of-map = map-tile c (valid-child (n % 2) (n / 2) (valid-tile (placeTile k) (a .place .of-map)) (a .higher) (omega arith) (omega arith))
 
-  pub fourth : ChildPlace k q (k + 3 * q) 1 1
-  fourth = child-place (k + 3 * q) 1 1 (omega arith) (omega arith) (omega arith)
+    pub steps : 2 * n * q ≤ 6 * q
+    steps = mul-le-mul-right q (omega arith)
 
-  -- the levels below a child are one less
-  pub fewer-levels : {m i j : ℕ} → ChildPlace k q m i j → suc (maxZoom - placeTile m .z) ≡ maxZoom - placeTile k .z
-  fewer-levels c = let f = ap (λ (t : Tile). t .z) (c .tile) in omega (arith, a .higher)
+    half : q ≡ lowOf c
+    half = omega (arith, a .half, low-child (placeTile k) (a .higher) (n % 2) (n / 2))
 
-  pub at-child : {m i j to n c : ℕ} → ChildPlace k q m i j → Come gone to n c → to ≤ m - q → AtTile gone m q n c
-  at-child p s h = record { place = p .place; half = p .half; runs = a .runs; come = come-on s h }
+    place : childAt k q n ≡ placeOf c
+    place =
+        let e : 2 * (n / 2) + n % 2 ≡ n = omega arith in
+        let p : placeOf c + 3 * q ≡ k + 2 * (n * q) =
+        rw (← half, a .place .again, e) at (place-child (placeTile k) (a .higher) (n % 2) (n / 2) (omega arith) (omega arith)) in
+        omega (arith, p, around .below)
 
-  of-child : {m i j b c : ℕ} {l n : List ℕ} → ChildPlace k q m i j → Wrote (leftAt gone m) b c l n
-      → Wrote (leftOf (maxZoom - suc (placeTile k .z)) (map placeTile gone) (child (placeTile k) i j)) b c l n
-  of-child p w = rw (p .tile) at w
+    tile : placeTile (childAt k q n) ≡ c
+    tile = ap placeTile place ∙ place-tile c of-map
 
-  pub walked-four : {n₁ c₁ n₂ c₂ n₃ c₃ n₄ c₄ : ℕ} {l₀ l₁ l₂ l₃ l₄ : List ℕ}
-      → Walked (leftAt gone (k - 3 * q)) gone (k - 3 * q + q) count l₀ l₁ n₁ c₁ → Walked (leftAt gone (k - q)) gone (k - q + q) c₁ l₁ l₂ n₂ c₂
-      → Walked (leftAt gone (k + q)) gone (k + q + q) c₂ l₂ l₃ n₃ c₃ → Walked (leftAt gone (k + 3 * q)) gone (k + 3 * q + q) c₃ l₃ l₄ n₄ c₄
-      → Walked (fourAt gone k) gone (k + 4 * q) count l₀ l₄ n₄ c₄
-  walked-four v w x y = record {
-    come = come-on (y .come) (omega arith);
-    wrote = wrote-both (of-child first (v .wrote)) (wrote-both (of-child second (w .wrote)) (wrote-both (of-child third (x .wrote)) (of-child fourth (y .wrote))));
-  }
+    -- the levels below a child are one less
+    pub fewer-levels : suc (maxZoom - placeTile (childAt k q n) .z) ≡ maxZoom - placeTile k .z
+    fewer-levels = let f = ap (λ (t : Tile). t .z) tile in omega (arith, a .higher)
+
+    module _ {before after : List ℕ} {m r : ℕ} (s : AtChild gone k q count before after n m r) where
+      pub at-child : AtTile gone (childAt k q n) q m r
+      at-child = record {
+        place = rw place (tile-place c of-map);
+        half = half ∙ ap lowOf (sym tile);
+        runs = a .runs;
+        come = come-on (s .walked .come) (omega (arith, around .below));
+      }
+
+      pub child-walked : {l : List ℕ} {i j : ℕ} → Walked (leftAt gone (childAt k q n)) gone (childAt k q n + q) r after l i j
+          → AtChild gone k q count before l (n + 1) i j
+      unfolding ofFirst
+      child-walked w = record {
+        most = omega arith;
+        walked = record {
+          come = come-on (w .come) (omega (arith, around .below));
+          wrote = rw (add-one n) (wrote-both (s .walked .wrote) (rw tile at (w .wrote)));
+        };
+      }
+
+  pub children-walked : {before after : List ℕ} {n m r : ℕ} → AtChild gone k q count before after n m r → 4 ≤ n
+      → Walked (fourAt gone k) gone (k + 4 * q) count before after m r
+  children-walked {before} {after} {n} s h =
+      let e : n ≡ 4 = omega (arith, s .most) in
+      let w = rw e at (s .walked) in
+      record {
+        come = come-on (w .come) (omega (arith, around .below));
+        wrote = rw (of-first-four (leftBelow gone k) (placeTile k)) at (w .wrote);
+      }

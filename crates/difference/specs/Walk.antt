@@ -7,7 +7,7 @@ use native.Mathlib.Nat.{add-zero}
 use native.Mathlib.Decide.{decLt}
 use native.Mathlib.Omega.{arith}
 use lib.ListN.{length, drop, set, length-append, length-map}
-use lib.Seq.{sets, sets-eq}
+use lib.Seq.{sets, sets-eq, length-sets}
 use Rattle.constants.specs.Limits.{maxZoom}
 use Rattle.quadtree.specs.Numbers.{placeOf, placeTile}
 use Rattle.settle.specs.Places.{lowOf, startOf, endOf, IsPlace}
@@ -80,6 +80,9 @@ sets-append l i (v ∷ a) b =
 -- where there is room for all of them, they stand at the front
 pub sets-front : (l vs : List ℕ) → length vs ≤ length l → sets l 0 vs ≡ vs ++ drop (length vs) l
 sets-front l vs h = let e : 0 + length vs ≡ length vs = omega arith in rw e at (sets-eq vs l 0 (omega arith))
+
+pub wrote-length : {left : List Tile} {count r : ℕ} {before after : List ℕ} → Wrote left count r before after → length after ≡ length before
+wrote-length {left} {count} {r} {before} w = ap length (w .written) ∙ length-sets before count (map placeOf left)
 
 pub wrote-none : (count : ℕ) (l : List ℕ) → Wrote [] count count l l
 wrote-none count l = record { counted = omega arith; written = refl }

@@ -53,26 +53,24 @@ fn tile(k: u64, low: u64, gone: &[u64], out: &mut [u64], at: Mark) -> Mark
     four(k, low / 4, gone, out, here)
 }
 
-// The four children, in the quadtree's order. Half a child's run is `quarter` long.
+// The four children, in the quadtree's order. Half a child's run is `quarter` long. Most of them are kept, and are not worth a call
+// of `tile`, which passes two slices through memory.
 fn four(k: u64, quarter: u64, gone: &[u64], out: &mut [u64], at: Mark) -> Mark
     requires { ⌜ AtFour (now gone) k quarter (at .next) (at .count) ⌝ }
     ensures { λ r. ⌜ Walked (fourAt (now (gone .entry)) k) (now (gone .entry)) (k + 4 * quarter) (at .count) (now (out .entry)) (now (out .exit)) (r .next) (r .count) ⌝ }
 {
-    let first = child(k - 3 * quarter, quarter, gone, out, at);
-    let second = child(k - quarter, quarter, gone, out, first);
-    let third = child(k + quarter, quarter, gone, out, second);
-    child(k + 3 * quarter, quarter, gone, out, third)
-}
-
-// Most children are kept, and are not worth a call of `tile`.
-fn child(k: u64, low: u64, gone: &[u64], out: &mut [u64], at: Mark) -> Mark
-    requires { ⌜ AtTile (now gone) k low (at .next) (at .count) ⌝ }
-    ensures { λ r. ⌜ Walked (leftAt (now (gone .entry)) k) (now (gone .entry)) (k + low) (at .count) (now (out .entry)) (now (out .exit)) (r .next) (r .count) ⌝ }
-{
-    if clear(gone, at.next, k + low) {
-        return keep(k, out, at);
+    let mut here = at;
+    let mut i = 0;
+    while i < 4 {
+        let child = k - 3 * quarter + 2 * i * quarter;
+        here = if clear(gone, here.next, child + quarter) {
+            keep(child, out, here)
+        } else {
+            tile(child, quarter, gone, out, here)
+        };
+        i += 1;
     }
-    tile(k, low, gone, out, at)
+    here
 }
 
 // Whether the tiles taken away, from the next one on, start at `end` or after it.

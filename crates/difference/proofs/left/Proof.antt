@@ -3,8 +3,8 @@ use Prim.Native.Nat.{_-_}
 use native.Mathlib.Omega.{arith}
 use borrow.Author.Needs.{needs}
 use lib.ListN.{length}
-use Rattle.difference.specs.Middle.{Mid, begun, moved, kept-length, ended}
-use Rattle.difference.specs.Walk.{come-on}
+use Rattle.difference.specs.Middle.{Mid, begun, moved, ended}
+use Rattle.difference.specs.Walk.{come-on, wrote-length}
 use Rattle.difference.proofs.left.Statement.{statement}
 use Rattle.difference.proofs.left.Tie as tie
 
@@ -49,10 +49,7 @@ loop-again c =
     (c .before .before .before .before .before .before .loop-test .taken) _ _ _ _ (c .before .before .before .before .low-bit .ensures) (c .before .before .tile .ensures)
 
 same-length : tie.Need-same-length Inv-loop μ-loop
-same-length c =
-    let L = c .before .loop in
-    let a = c .before .before .before .before .before .args in
-    kept-length (a .kept .now) (a .gone .now) (a .out .now) (L .out) (L .i) (L .at .next) (L .at .count) (L .inv)
+same-length c = wrote-length (c .before .loop .inv .wrote)
 
 returns : tie.Need-returns Inv-loop μ-loop
 returns c =
