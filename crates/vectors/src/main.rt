@@ -1,5 +1,6 @@
 // Checks the library against the examples of the public pages, and against those of document 01 that are not proved: a line for each says
 // what the page says and what the library gives. The last line counts them, and those that differ.
+mod area_limits;
 mod bing;
 mod limits;
 mod pictures;
@@ -24,5 +25,6 @@ fn main() {
     t = slippy::from_the_bottom(t);
     t = limits::keys(t);
     t = limits::lists(t);
+    t = area_limits::lists(t);
     tally::end(t);
 }
