@@ -31,6 +31,11 @@ pub maxZoom-small : maxZoom ≤ 30
 unfolding maxZoom
 maxZoom-small = omega arith
 
+-- the zooms on which the Rust is compared, 0 to 29, are among this library's
+pub at-least-29 : 29 ≤ maxZoom
+unfolding maxZoom
+at-least-29 = omega arith
+
 -- a line has fewer keys than a list may have entries
 pub lines-in-entries : maxLine ≤ maxEntries
 unfolding maxLine maxEntries
