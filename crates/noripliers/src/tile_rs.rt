@@ -6,8 +6,7 @@ ghost use mathlib.Core.Path.{_≡_};
 ghost use Rattle.noripliers.specs.Exported.{answered, never, orderNumber};
 ghost use Rattle.tile.specs.OnMap.{tileAt, tileRefusal, tryNew};
 ghost use Rattle.tile.specs.Order.{tileOrder};
-ghost use Rattle.tile.specs.Steps.{flipOf, stepOf};
-ghost use Rattle.tile.specs.declared.Step.the-variants.{Back, Stay, On};
+ghost use Rattle.tile.specs.Steps.{flipOf, upOf, downOf, leftOf, rightOf, upLeftOf, upRightOf, downLeftOf, downRightOf};
 
 // The tile itself, where x, y and z name one of the map.
 // Refused: 1, 2.
@@ -72,7 +71,7 @@ fn order_number(order: Ordering) -> u8
 // Refused: 1, 2.
 #[no_mangle]
 pub extern "C" fn nori_up(x: u32, y: u32, z: u8, tx: &mut u32, ty: &mut u32, tz: &mut u8) -> u8
-    ensures { λ r. ⌜ answered r (tileAt (now (tx .exit)) (now (ty .exit)) (now (tz .exit))) ≡ stepOf On Stay (tileAt x y z) ⌝ }
+    ensures { λ r. ⌜ answered r (tileAt (now (tx .exit)) (now (ty .exit)) (now (tz .exit))) ≡ upOf (tileAt x y z) ⌝ }
 {
     let t = Tile { x, y, z };
     give::tile(t.up(), tx, ty, tz)
@@ -82,7 +81,7 @@ pub extern "C" fn nori_up(x: u32, y: u32, z: u8, tx: &mut u32, ty: &mut u32, tz:
 // Refused: 1, 2.
 #[no_mangle]
 pub extern "C" fn nori_down(x: u32, y: u32, z: u8, tx: &mut u32, ty: &mut u32, tz: &mut u8) -> u8
-    ensures { λ r. ⌜ answered r (tileAt (now (tx .exit)) (now (ty .exit)) (now (tz .exit))) ≡ stepOf Back Stay (tileAt x y z) ⌝ }
+    ensures { λ r. ⌜ answered r (tileAt (now (tx .exit)) (now (ty .exit)) (now (tz .exit))) ≡ downOf (tileAt x y z) ⌝ }
 {
     let t = Tile { x, y, z };
     give::tile(t.down(), tx, ty, tz)
@@ -92,7 +91,7 @@ pub extern "C" fn nori_down(x: u32, y: u32, z: u8, tx: &mut u32, ty: &mut u32, t
 // Refused: 1, 2.
 #[no_mangle]
 pub extern "C" fn nori_left(x: u32, y: u32, z: u8, tx: &mut u32, ty: &mut u32, tz: &mut u8) -> u8
-    ensures { λ r. ⌜ answered r (tileAt (now (tx .exit)) (now (ty .exit)) (now (tz .exit))) ≡ stepOf Stay Back (tileAt x y z) ⌝ }
+    ensures { λ r. ⌜ answered r (tileAt (now (tx .exit)) (now (ty .exit)) (now (tz .exit))) ≡ leftOf (tileAt x y z) ⌝ }
 {
     let t = Tile { x, y, z };
     give::tile(t.left(), tx, ty, tz)
@@ -102,7 +101,7 @@ pub extern "C" fn nori_left(x: u32, y: u32, z: u8, tx: &mut u32, ty: &mut u32, t
 // Refused: 1, 2.
 #[no_mangle]
 pub extern "C" fn nori_right(x: u32, y: u32, z: u8, tx: &mut u32, ty: &mut u32, tz: &mut u8) -> u8
-    ensures { λ r. ⌜ answered r (tileAt (now (tx .exit)) (now (ty .exit)) (now (tz .exit))) ≡ stepOf Stay On (tileAt x y z) ⌝ }
+    ensures { λ r. ⌜ answered r (tileAt (now (tx .exit)) (now (ty .exit)) (now (tz .exit))) ≡ rightOf (tileAt x y z) ⌝ }
 {
     let t = Tile { x, y, z };
     give::tile(t.right(), tx, ty, tz)
@@ -112,7 +111,7 @@ pub extern "C" fn nori_right(x: u32, y: u32, z: u8, tx: &mut u32, ty: &mut u32, 
 // Refused: 1, 2.
 #[no_mangle]
 pub extern "C" fn nori_up_left(x: u32, y: u32, z: u8, tx: &mut u32, ty: &mut u32, tz: &mut u8) -> u8
-    ensures { λ r. ⌜ answered r (tileAt (now (tx .exit)) (now (ty .exit)) (now (tz .exit))) ≡ stepOf On Back (tileAt x y z) ⌝ }
+    ensures { λ r. ⌜ answered r (tileAt (now (tx .exit)) (now (ty .exit)) (now (tz .exit))) ≡ upLeftOf (tileAt x y z) ⌝ }
 {
     let t = Tile { x, y, z };
     give::tile(t.up_left(), tx, ty, tz)
@@ -129,7 +128,7 @@ pub extern "C" fn nori_up_right(
     ty: &mut u32,
     tz: &mut u8,
 ) -> u8
-    ensures { λ r. ⌜ answered r (tileAt (now (tx .exit)) (now (ty .exit)) (now (tz .exit))) ≡ stepOf On On (tileAt x y z) ⌝ }
+    ensures { λ r. ⌜ answered r (tileAt (now (tx .exit)) (now (ty .exit)) (now (tz .exit))) ≡ upRightOf (tileAt x y z) ⌝ }
 {
     let t = Tile { x, y, z };
     give::tile(t.up_right(), tx, ty, tz)
@@ -146,7 +145,7 @@ pub extern "C" fn nori_down_left(
     ty: &mut u32,
     tz: &mut u8,
 ) -> u8
-    ensures { λ r. ⌜ answered r (tileAt (now (tx .exit)) (now (ty .exit)) (now (tz .exit))) ≡ stepOf Back Back (tileAt x y z) ⌝ }
+    ensures { λ r. ⌜ answered r (tileAt (now (tx .exit)) (now (ty .exit)) (now (tz .exit))) ≡ downLeftOf (tileAt x y z) ⌝ }
 {
     let t = Tile { x, y, z };
     give::tile(t.down_left(), tx, ty, tz)
@@ -163,7 +162,7 @@ pub extern "C" fn nori_down_right(
     ty: &mut u32,
     tz: &mut u8,
 ) -> u8
-    ensures { λ r. ⌜ answered r (tileAt (now (tx .exit)) (now (ty .exit)) (now (tz .exit))) ≡ stepOf Back On (tileAt x y z) ⌝ }
+    ensures { λ r. ⌜ answered r (tileAt (now (tx .exit)) (now (ty .exit)) (now (tz .exit))) ≡ downRightOf (tileAt x y z) ⌝ }
 {
     let t = Tile { x, y, z };
     give::tile(t.down_right(), tx, ty, tz)

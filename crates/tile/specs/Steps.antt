@@ -32,6 +32,31 @@ stepOf a b t =
     answer (tileRefusal (t .x) (t .y) (t .z) else 2 when (leaves a (t .x) (2 ^ t .z) || leaves b (t .y) (2 ^ t .z)))
     noTile (tileAt (stepped a (t .x)) (stepped b (t .y)) (t .z))
 
+-- the eight steps by the Rust's names, in which `up` moves x
+abbrev pub upOf : Tile → Answer Tile
+upOf t = stepOf On Stay t
+
+abbrev pub downOf : Tile → Answer Tile
+downOf t = stepOf Back Stay t
+
+abbrev pub leftOf : Tile → Answer Tile
+leftOf t = stepOf Stay Back t
+
+abbrev pub rightOf : Tile → Answer Tile
+rightOf t = stepOf Stay On t
+
+abbrev pub upLeftOf : Tile → Answer Tile
+upLeftOf t = stepOf On Back t
+
+abbrev pub upRightOf : Tile → Answer Tile
+upRightOf t = stepOf On On t
+
+abbrev pub downLeftOf : Tile → Answer Tile
+downLeftOf t = stepOf Back Back t
+
+abbrev pub downRightOf : Tile → Answer Tile
+downRightOf t = stepOf Back On t
+
 -- both at once, as the code takes them
 abbrev pub steppedTo : Step → ℕ → ℕ → Place
 steppedTo s n end = cond (leaves s n end) Off (At (stepped s n))

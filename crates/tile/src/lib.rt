@@ -9,8 +9,8 @@ ghost use Rattle.errors.specs.Cases.{checkNumber, u32Case};
 ghost use Rattle.tile.specs.Given.{given};
 ghost use Rattle.tile.specs.OnMap.{tileRefusal, tileCase, sideOf, tryNew};
 ghost use Rattle.tile.specs.Order.{byNumber, tileOrder};
-ghost use Rattle.tile.specs.declared.Step.the-variants.{Back, Stay, On};
 ghost use Rattle.tile.specs.Steps.{flipOf, stepOf, steppedTo, placedAt};
+ghost use Rattle.tile.specs.Steps.{upOf, downOf, leftOf, rightOf, upLeftOf, upRightOf, downLeftOf, downRightOf};
 
 // x grows east, y south.
 pub struct Tile {
@@ -130,49 +130,49 @@ impl Tile {
     }
 
     pub fn up(self) -> TileAnswer
-        ensures { λ r. ⌜ tileCase r ≡ stepOf On Stay self ⌝ }
+        ensures { λ r. ⌜ tileCase r ≡ upOf self ⌝ }
     {
         self.step(Step::On, Step::Stay)
     }
 
     pub fn down(self) -> TileAnswer
-        ensures { λ r. ⌜ tileCase r ≡ stepOf Back Stay self ⌝ }
+        ensures { λ r. ⌜ tileCase r ≡ downOf self ⌝ }
     {
         self.step(Step::Back, Step::Stay)
     }
 
     pub fn left(self) -> TileAnswer
-        ensures { λ r. ⌜ tileCase r ≡ stepOf Stay Back self ⌝ }
+        ensures { λ r. ⌜ tileCase r ≡ leftOf self ⌝ }
     {
         self.step(Step::Stay, Step::Back)
     }
 
     pub fn right(self) -> TileAnswer
-        ensures { λ r. ⌜ tileCase r ≡ stepOf Stay On self ⌝ }
+        ensures { λ r. ⌜ tileCase r ≡ rightOf self ⌝ }
     {
         self.step(Step::Stay, Step::On)
     }
 
     pub fn up_left(self) -> TileAnswer
-        ensures { λ r. ⌜ tileCase r ≡ stepOf On Back self ⌝ }
+        ensures { λ r. ⌜ tileCase r ≡ upLeftOf self ⌝ }
     {
         self.step(Step::On, Step::Back)
     }
 
     pub fn up_right(self) -> TileAnswer
-        ensures { λ r. ⌜ tileCase r ≡ stepOf On On self ⌝ }
+        ensures { λ r. ⌜ tileCase r ≡ upRightOf self ⌝ }
     {
         self.step(Step::On, Step::On)
     }
 
     pub fn down_left(self) -> TileAnswer
-        ensures { λ r. ⌜ tileCase r ≡ stepOf Back Back self ⌝ }
+        ensures { λ r. ⌜ tileCase r ≡ downLeftOf self ⌝ }
     {
         self.step(Step::Back, Step::Back)
     }
 
     pub fn down_right(self) -> TileAnswer
-        ensures { λ r. ⌜ tileCase r ≡ stepOf Back On self ⌝ }
+        ensures { λ r. ⌜ tileCase r ≡ downRightOf self ⌝ }
     {
         self.step(Step::Back, Step::On)
     }
