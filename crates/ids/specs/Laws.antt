@@ -26,10 +26,14 @@ id-zoom = omega arith
 column-fits : (x z : ℕ) → x < 2 ^ z → x < 2 ^ (z + 1)
 column-fits x z h = lt-of-lt-of-le h (pow-mono (omega arith))
 
+-- to zoom 29 a place is below 2 ^ 59
+pub place-below : (x y z : ℕ) → z ≤ 29 → x < 2 ^ z → y < 2 ^ z → 2 ^ (z + 1) * y + x < 2 ^ 59
+place-below x y z h k l =
+    let d : z + (z + 1) ≤ 59 = omega arith in
+    rw (mul-comm (2 ^ (z + 1)) y) (lt-of-lt-of-le (rw (← pow-add 2 z (z + 1)) at (digits-lt l (column-fits x z k))) (pow-mono d))
+
 pub place-small : (x y z : ℕ) → OnMap x y z → 2 ^ (z + 1) * y + x < 2 ^ 59
-place-small x y z m =
-    let l : z + (z + 1) ≤ 59 = omega (arith, m .zoom, id-zoom) in
-    rw (mul-comm (2 ^ (z + 1)) y) (lt-of-lt-of-le (rw (← pow-add 2 z (z + 1)) at (digits-lt (m .row) (column-fits x z (m .column)))) (pow-mono l))
+place-small x y z m = place-below x y z (omega (arith, m .zoom, id-zoom)) (m .column) (m .row)
 
 -- a number is that of the tile that it takes apart to
 pub id-again : (n : ℕ) → idOf (idTile n .x) (idTile n .y) (idTile n .z) ≡ n

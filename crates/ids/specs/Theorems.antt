@@ -1,23 +1,29 @@
--- What the definitions of this crate come to, in document 01's words. Nothing is assumed.
+-- What the definitions of this crate come to, in document 01's words, and that the Rust gives the same. Nothing is assumed.
 use mathlib.Core.Path.{_≡_, refl, sym, ap, _∙_}
 use mathlib.Core.Logic.{_↔_}
+use mathlib.Core.Bool.{cond}
 use Prim.Native.Nat.{ℕ, zero, suc, _+_, _-_, _*_, _/_, _%_, _^_, _≤_, _<_}
 use native.Mathlib.Decide.{decLt}
 use native.Mathlib.Nat.{mod-eq-of-lt, div-add-mod', lt-of-lt-of-le, mul-div-cancel}
 use native.Mathlib.Numerals.{add-one}
 use native.Mathlib.Omega.{arith}
 use lib.Arith.{digits-div, digits-mod}
-use lib.Pow.{pow-pos, pow-mono}
-use borrow.Author.Tests.{lt-ltb, le-ltb, lt-leb}
-use Rattle.constants.specs.Limits.{maxZoom, maxZoom-small}
-use Rattle.tile.specs.OnMap.{OnMap, tileAt}
+use lib.Dec.{ltb}
+use lib.Pow.{pow-pos, pow-mono, pow-lt}
+use borrow.Author.Tests.{lt-ltb, le-ltb, lt-leb, ne-eqb}
+use Rattle.bits.specs.Checked.{Run, stops, returns, _then_, read, within, plus, minus, shiftUp, fits, minus-fits, one-shifted}
+use Rattle.constants.specs.Limits.{maxZoom, at-least-29}
+use Rattle.tile.specs.OnMap.{OnMap, tileAt, on-map-accepted}
+use Rattle.tile.specs.Rust.{To29, to-29-on-map, accepted}
 use Rattle.tile.specs.declared.Tile.{Tile}
-use Rattle.ids.specs.Id.{idOf, idTile, idRefusal, fromIdOf}
-use Rattle.ids.specs.Laws.{id-parts, id-again, tile-again, id-accepted, accepted-id}
-use Rattle.ids.specs.Laws.{InZoom, four-power, start-next, start-mono, rmid-small, rmid-below, rmid-holds}
+use Rattle.ids.specs.Id.{idOf, idTile, idRefusal, toIdOf, fromIdOf}
+use Rattle.ids.specs.Laws.{place-below, double-side, id-parts, id-again, tile-again, id-accepted, accepted-id}
+use Rattle.ids.specs.Laws.{InZoom, four-power, power-start, start-next, start-mono, start-small, rmid-small, rmid-below, rmid-fits, rmid-holds}
 use Rattle.ids.specs.Laws.{zoom-holds, one-zoom, place-in-zoom, place-column, place-row}
-use Rattle.ids.specs.Rmid.{levelStart, rmid, rmidLimit, rmidRefusal, zoomOf, offsetOf, fromRmidOf}
-use Rattle.ids.specs.Rust.{rustFromId, rustLoop, rustOffsetZoom}
+use Rattle.ids.specs.Rmid.{levelStart, rmid, rmidLimit, rmidRefusal, zoomUpTo, zoomOf, offsetOf}
+use Rattle.ids.specs.Rmid.{toRmidOf, offsetZoomOf, fromRmidOf}
+use Rattle.ids.specs.Rust.{rustToId, rustFromId, rustXyz2rmid, rustLoop, rustOffsetZoom, rustPlace, rustRmid2xyz}
+use Rattle.ids.specs.declared.OffsetZoom.{OffsetZoom}
 
 -- a number that is some tile's
 pub IsId : ℕ → Type 0
@@ -65,39 +71,169 @@ rmid-of-the-tile n e =
       rw e,
     )
 
--- the Rust's `from_id` on the numbers that are accepted
-pub rust-from-id : (n : ℕ) → idRefusal n ≡ 0 → rustFromId n ≡ idTile n
-rust-from-id n e =
+-- The Rust, by the functions of Rust.antt, in 64 bits: `to_id`
+pub rust-to-id : (x y z : ℕ) → To29 x y z → read accepted (rustToId x y z) ≡ returns (toIdOf x y z)
+unfolding idOf
+rust-to-id x y z m =
+    let p = 2 ^ (z + 1) in
+    let s = place-below x y z (m .zoom) (m .column) (m .row) in
+    let d : 2 * 2 ^ z ≡ p = double-side z in
+    let b : p < 2 ^ 64 = pow-lt {j = 64} (omega (arith, m .zoom)) in
+    rw (
+      one-shifted 64 z (omega (arith, m .zoom)),
+      d,
+      fits 64 p b,
+      fits 64 (p * y) (omega arith),
+      fits 64 (p * y + x) (omega arith),
+      fits 64 ((p * y + x) * 32) (omega arith),
+      fits 64 ((p * y + x) * 32 + z) (omega (arith, m .zoom)),
+      on-map-accepted (to-29-on-map m),
+    )
+
+-- `from_id`, on the numbers that are accepted
+pub rust-from-id : (n : ℕ) → idRefusal n ≡ 0 → idTile n .z ≤ 29 → read accepted (rustFromId n) ≡ returns (fromIdOf n)
+rust-from-id n e h =
+    let z = n % 32 in
     let p = n / 32 in
-    let d = 2 * 2 ^ (n % 32) in
-    let pos : 0 < d = omega (arith, pow-pos (n % 32)) in
-    let m : OnMap (p % d) (p / d) (n % 32) = rw (id-parts n) at (accepted-id n e) in
-    let a : (n - n % 32) / 32 ≡ p = omega arith in
+    let d = 2 * 2 ^ z in
+    let l : z ≤ 29 = rw (id-parts n) at h in
+    let m : OnMap (p % d) (p / d) z = rw (id-parts n) at (accepted-id n e) in
+    let side : 2 ^ z ≤ 2 ^ 29 = pow-mono {j = 29} l in
+    let pos : 0 < d = omega (arith, pow-pos z) in
+    let a : (n - z) / 32 ≡ p = omega arith in
     let b : p - p % d ≡ p / d * d = omega (arith, div-add-mod' p d) in
-    let l : p / d < 2 ^ 32 = lt-of-lt-of-le (m .row) (pow-mono {j = 32} (omega (arith, m .zoom, maxZoom-small))) in
-    rw (a, b, mul-div-cancel (p / d) pos, mod-eq-of-lt l, id-parts n)
+    let c : z % 2 ^ 8 ≡ z = mod-eq-of-lt (omega arith) in
+    let r : p / d < 2 ^ 32 = omega (arith, m .row) in
+    rw (
+      c,
+      one-shifted 64 z (omega arith),
+      fits 64 d (omega arith),
+      minus-fits n z (omega arith),
+      a,
+      fits 32 (p % d) (omega (arith, m .column)),
+      minus-fits p (p % d) (omega (arith, div-add-mod' p d)),
+      b,
+      mul-div-cancel (p / d) pos,
+      mod-eq-of-lt r,
+      one-shifted 32 z (omega arith),
+      lt-ltb _ _ (m .column),
+      lt-ltb _ _ (m .row),
+      e,
+      id-parts n,
+    )
+
+-- `xyz2rmid`
+pub rust-xyz2rmid : (x y z : ℕ) → To29 x y z → read accepted (rustXyz2rmid x y z) ≡ returns (toRmidOf x y z)
+unfolding levelStart
+rust-xyz2rmid x y zero m =
+    let c : x < 1 = m .column in
+    let r : y < 1 = m .row in
+    let e : 0 + x + y * 1 ≡ x + y * 1 = omega arith in
+    rw (fits 64 1 (omega arith), fits 64 (y * 1) (omega arith), fits 64 (x + y * 1) (omega arith), on-map-accepted (to-29-on-map m), e)
+rust-xyz2rmid x y (suc z) m =
+    let w = suc z in
+    let l = rmid-fits x y w (to-29-on-map m) in
+    let d = start-small (suc w) (omega (arith, m .zoom)) in
+    let k : 4 ^ w < 2 ^ 62 = omega (arith, d, start-next w) in
+    let f : 2 ^ w < 2 ^ 64 = pow-lt {j = 64} (omega (arith, m .zoom)) in
+    rw (
+      ne-eqb w 0 (λ e. omega arith),
+      fits 64 (4 ^ w) (omega arith),
+      minus-fits (4 ^ w) 1 (omega (arith, power-start w)),
+      fits 64 (levelStart w + x) (omega arith),
+      fits 64 (2 ^ w) f,
+      fits 64 (y * 2 ^ w) (omega arith),
+      fits 64 (levelStart w + x + y * 2 ^ w) (omega arith),
+      on-map-accepted (to-29-on-map m),
+    )
+
+-- "below 384307168202282325": such a number is accepted, and lies in a zoom to 29
+in-zoom-29 : (n : ℕ) → n < 384307168202282325 → (rmidRefusal n ≡ 0) × InZoom n (zoomOf n) × (zoomOf n ≤ 29)
+unfolding levelStart
+in-zoom-29 n h =
+    let k : n < levelStart 30 = h in
+    let l : n < levelStart (suc maxZoom) = lt-of-lt-of-le k (start-mono 30 (suc maxZoom) (omega (arith, at-least-29))) in
+    let r : n < rmidLimit = rw (add-one maxZoom) l in
+    let a = zoom-holds n maxZoom l in
+    let b = zoom-holds n 29 k in
+    let e : zoomOf n ≡ zoomUpTo n 29 = one-zoom n (zoomOf n) (zoomUpTo n 29) (a .0) (b .0) in
+    (rw (lt-leb _ _ r), a .0, rw e (b .1))
 
 -- the Rust's loop finds the zoom that holds the number, and the place in it
-loop-finds : (turns i z w : ℕ) → InZoom i w → z ≤ w → w < z + turns
-    → rustLoop turns i (levelStart z) z ≡ record { offset = i - levelStart w; zoom = w }
+loop-finds : (turns i z w : ℕ) → InZoom i w → w ≤ 29 → z ≤ w → w < z + turns
+    → rustLoop turns i (levelStart z) z ≡ returns (record { offset = i - levelStart w; zoom = w })
 unfolding rustLoop
-loop-finds zero i z w h l k = absurd (omega arith)
-loop-finds (suc turns) i z w h l k = pick (decLt i (levelStart (suc z))) (loop-finds turns i (suc z) w h)
+loop-finds zero i z w h d l k = absurd (omega arith)
+loop-finds (suc turns) i z w h d l k =
+    rw (
+      one-shifted 64 z (omega arith),
+      fits 64 (2 ^ z * 2 ^ z) (omega (arith, small)),
+      sum,
+      fits 64 (levelStart (suc z)) (omega (arith, small, sum)),
+    ) (pick (decLt i (levelStart (suc z))) (loop-finds turns i (suc z) w h d))
   where
     sum : levelStart z + 2 ^ z * 2 ^ z ≡ levelStart (suc z)
     sum = sym (start-next z ∙ ap (λ (n : ℕ). levelStart z + n) (four-power z))
 
-    Found : ℕ → ℕ → Type 0
-    Found n y = rustLoop n i (levelStart y) y ≡ record { offset = i - levelStart w; zoom = w }
+    small : levelStart z + 2 ^ z * 2 ^ z < 2 ^ 62
+    small = rw sum (start-small (suc z) (omega arith))
 
-    on : Dec (z < w) → (i < levelStart (suc z) → ⊥) → (suc z ≤ w → w < suc z + turns → Found turns (suc z)) → Found turns (suc z)
-    on (yes j) m f = f j (omega arith)
-    on (no j) m f = let e : z ≡ w = omega arith in absurd (m (rw e (h .below)))
+    deeper : (i < levelStart (suc z) → ⊥) → Dec (z < w) → z < w
+    deeper m (yes j) = j
+    deeper m (no j) = let e : z ≡ w = omega arith in absurd (m (rw e (h .below)))
 
-    pick : Dec (i < levelStart (suc z)) → (suc z ≤ w → w < suc z + turns → Found turns (suc z)) → Found (suc turns) z
-    pick (yes m) f = let e : z ≡ w = one-zoom i z w (record { from = omega (arith, start-mono z w l, h .from); below = m }) h in rw (sum, lt-ltb _ _ m, e)
-    pick (no m) f = let b : levelStart (suc z) ≤ i = omega arith in rw (sum, le-ltb _ _ b) (on (decLt z w) m f)
+    Found : Run OffsetZoom → Type 0
+    Found r = r ≡ returns (record { offset = i - levelStart w; zoom = w })
 
-pub rust-offset-zoom : (n : ℕ) → rmidRefusal n ≡ 0 → rustOffsetZoom n ≡ record { offset = offsetOf n; zoom = zoomOf n }
+    here : Run OffsetZoom
+    here = minus i (levelStart z) then λ o. returns (record { offset = o; zoom = z })
+
+    on : Run OffsetZoom
+    on = plus 8 z 1 then λ deep. rustLoop turns i (levelStart (suc z)) deep
+
+    pick : Dec (i < levelStart (suc z)) → (suc z ≤ w → w < suc z + turns → Found (rustLoop turns i (levelStart (suc z)) (suc z)))
+        → Found (cond (ltb i (levelStart (suc z))) here on)
+    pick (yes m) f =
+        let from : levelStart z ≤ i = omega (arith, start-mono z w l, h .from) in
+        let e : z ≡ w = one-zoom i z w (record { from = from; below = m }) h in
+        rw (lt-ltb _ _ m, minus-fits i (levelStart z) from, e)
+    pick (no m) f =
+        let b : levelStart (suc z) ≤ i = omega arith in
+        let n : z < w = deeper m (decLt z w) in
+        rw (le-ltb _ _ b, fits 8 (z + 1) (omega arith), add-one z) (f n (omega arith))
+
+-- the bound on the turns leaves nothing out: in the turn for zoom 32, the 33rd, the count of tiles does not fit 64 bits
+pub rust-loop-stops : (turns i acc : ℕ) → rustLoop turns i acc 32 ≡ stops
+unfolding rustLoop within shiftUp
+rust-loop-stops zero i acc = refl
+rust-loop-stops (suc turns) i acc = refl
+
+-- its answer for 0, given before the loop, is the loop's
+by-the-loop : (n : ℕ) → rustOffsetZoom n ≡ rustLoop 33 n 0 0
+unfolding rustLoop within minus shiftUp
+by-the-loop zero = refl
+by-the-loop (suc n) = rw (ne-eqb (suc n) 0 (λ e. omega arith))
+
+offset-found : (n : ℕ) → n < 384307168202282325 → rustOffsetZoom n ≡ returns (record { offset = offsetOf n; zoom = zoomOf n })
 unfolding levelStart
-rust-offset-zoom n e = let h = rmid-holds n e in loop-finds 32 n 0 (zoomOf n) (h .0) (omega arith) (omega (arith, h .1, maxZoom-small))
+offset-found n h = let a = in-zoom-29 n h in by-the-loop n ∙ loop-finds 33 n 0 (zoomOf n) (a .1) (a .2) (omega arith) (omega (arith, a .2))
+
+-- and so for `rmid2xyz`
+from-the-offset : (n : ℕ) → rustRmid2xyz n ≡ rustOffsetZoom n then rustPlace
+unfolding within
+from-the-offset zero = refl
+from-the-offset (suc n) = rw (ne-eqb (suc n) 0 (λ e. omega arith))
+
+-- `int_2_offset_zoom` and `rmid2xyz`
+pub rust-offset-zoom : (n : ℕ) → n < 384307168202282325 → read accepted (rustOffsetZoom n) ≡ returns (offsetZoomOf n)
+rust-offset-zoom n h = rw (offset-found n h, in-zoom-29 n h .0)
+
+pub rust-rmid2xyz : (n : ℕ) → n < 384307168202282325 → read accepted (rustRmid2xyz n) ≡ returns (fromRmidOf n)
+rust-rmid2xyz n h =
+    let a = in-zoom-29 n h in
+    let z = zoomOf n in
+    let o = offsetOf n in
+    let side : 2 ^ z ≤ 2 ^ 29 = pow-mono {j = 29} (a .2) in
+    let c : o % 2 ^ z < 2 ^ 32 = omega (arith, place-column o z) in
+    let r : o / 2 ^ z < 2 ^ 32 = omega (arith, place-row o z (place-in-zoom n z (a .1))) in
+    rw (from-the-offset n, offset-found n h, fits 64 (2 ^ z) (omega arith), mod-eq-of-lt c, mod-eq-of-lt r, a .0)
