@@ -99,11 +99,6 @@ one-first {p} {z} {end} {a} {b} f g = pick (decLt a b) (decLt b a)
     pick (no l) (yes k) = absurd (clash b (g .holds (omega (arith, f .within))) (f .before b (g .from) k))
     pick (no l) (no k) = omega arith
 
-pub same-first : (p q : ℕ → Bool) → ((k : ℕ) → p k ≡ q k) → (z zooms : ℕ) → firstZoom p z zooms ≡ firstZoom q z zooms
-unfolding firstZoom
-same-first p q e z zero = refl
-same-first p q e z (suc zooms) = rw (e z, same-first p q e (suc z) zooms)
-
 -- two bits are the same where they stand at one place
 same-scaled : (a b i : ℕ) → eqb (a * 2 ^ i) (b * 2 ^ i) ≡ eqb a b
 same-scaled a b i = pick (eqb a b) refl

@@ -1,20 +1,25 @@
 -- What the definitions of this crate come to, in document 01's words, and that the Rust gives the same. Nothing is assumed.
-use mathlib.Core.Path.{_≡_, refl, sym, _∙_}
+use mathlib.Core.Path.{_≡_, refl, ap, _∙_}
 use mathlib.Core.Logic.{_↔_}
-use mathlib.Core.Bool.{Bool, true, false, not, _&&_, _||_}
+use mathlib.Core.Bool.{Bool, true, false, cond, not, _&&_, _||_}
+use mathlib.Core.Option.{none, some}
 use Prim.Native.Nat.{ℕ, zero, suc, _+_, _-_, _/_, _^_, _≤_, _<_}
 use native.Mathlib.Decide.{decLt}
+use native.Mathlib.Nat.{le-trans}
 use native.Mathlib.Omega.{arith}
 use lib.Dec.{eqb, leb}
 use lib.Pow.{pow-pos, shr-shr, shr-lt}
-use borrow.Author.Tests.{le-leb, lt-leb, le-ltb, eqb-true, eq-eqb, ne-eqb}
+use borrow.Author.Tests.{le-leb, lt-leb, le-ltb, lt-ltb, eqb-true, eq-eqb, ne-eqb}
 use Rattle.bits.specs.Bits.{bit}
-use Rattle.constants.specs.Limits.{maxZoom}
+use Rattle.bits.specs.Checked.{returns, read, fits, minus-fits, one-shifted, shifted-down}
+use Rattle.constants.specs.Limits.{maxZoom, at-least-29}
 use Rattle.tile.specs.OnMap.{OnMap, tileAt, noTile, tileRefusal, on-map-accepted, accepted-on-map, off-column, off-row}
+use Rattle.tile.specs.Rust.{To29, to-29-on-map, accepted, rustFlipy}
+use Rattle.tile.specs.Theorems.{power-fits, rust-flipped-row}
 use Rattle.tile.specs.declared.Tile.{Tile}
-use Rattle.fns.specs.Fns.{minMaxOf, isTile, flipyOf, parentRefusal, parentOf, differ, bbox2zoomOf}
-use Rattle.fns.specs.Laws.{First, first-zoom, one-first, same-first, masked, half-on-map, parent-step, nearest-parent}
-use Rattle.fns.specs.Rust.{rustParent, noneIsThree, rustValid, rustBbox2zoom}
+use Rattle.fns.specs.Fns.{minMaxOf, isTile, flipyOf, parentRefusal, parentOf, differ, firstZoom, bbox2zoomOf}
+use Rattle.fns.specs.Laws.{First, first-zoom, one-first, masked, half-on-map, parent-step, nearest-parent}
+use Rattle.fns.specs.Rust.{rustMinmax, rustValid, rustParent, noneIsThree, rustZooms, rustBbox2zoom}
 
 -- "n is extra steps, not a zoom; the answer has zoom z − 1 − n and x, y shifted by 1 + n"
 pub parent-is-the-shift : {x y z n : ℕ} → OnMap x y z → n < z
@@ -22,12 +27,12 @@ pub parent-is-the-shift : {x y z n : ℕ} → OnMap x y z → n < z
 unfolding parentRefusal
 parent-is-the-shift {x} {y} {z} {n} m h = rw (on-map-accepted m, lt-leb _ _ h)
 
--- "n ≥ z is 3 (also at z = 0)"
+-- document 03: "n ≥ z is 3 (also at z = 0)"
 pub no-such-ancestor : {x y z n : ℕ} → OnMap x y z → z ≤ n → parentOf x y z n ≡ record { number = 3; value = noTile }
 unfolding parentRefusal
 no-such-ancestor m h = rw (on-map-accepted m, le-leb _ _ h)
 
--- "a tile off the map is 2 before that, zoom 30 is 1"
+-- document 03: "a tile off the map is 2 before that, zoom 30 is 1"
 pub off-the-map-first : (x y z n : ℕ) {k : ℕ} → tileRefusal x y z ≡ suc k → parentOf x y z n ≡ record { number = suc k; value = noTile }
 unfolding parentRefusal
 off-the-map-first x y z n e = rw e
@@ -53,42 +58,80 @@ parent-of-the-parent {x} {y} {z} {n} m h =
     let t = tileAt (x / 2 ^ (1 + n)) (y / 2 ^ (1 + n)) (z - 1 - n) in
     (t, parent-is-the-shift m l, rw (nearest-parent p k, far, shr-shr x (1 + n) 1, shr-shr y (1 + n) 1, e, s))
 
--- the Rust's `parent`, "compared for n ≤ z"
-pub rust-parent : {x y z : ℕ} (n : ℕ) → OnMap x y z → n ≤ z → noneIsThree (rustParent x y z n) ≡ parentOf x y z n
+-- The Rust, by the functions of Rust.antt. The parent of a tile to zoom 29 is one
+pub half-to-29 : {x y z : ℕ} → To29 x y z → 0 < z → To29 (x / 2) (y / 2) (z - 1)
+half-to-29 m h =
+    let u = half-on-map (to-29-on-map m) h in
+    record { zoom = omega (arith, m .zoom); column = u .column; row = u .row }
+
+-- one step up, and none above the root
+pub rust-nearest : (x y z : ℕ) → To29 x y z → 0 < z → rustParent x y z 0 ≡ returns (some (tileAt (x / 2) (y / 2) (z - 1)))
 unfolding rustParent
-rust-parent {x} {y} {z} zero m h = pick (decLt 0 z)
-  where
-    pick : Dec (0 < z) → noneIsThree (rustParent x y z zero) ≡ parentOf x y z zero
-    pick (yes l) = rw (ne-eqb z 0 (λ e. omega arith)) (sym (nearest-parent m l))
-    pick (no l) = let e : z ≤ 0 = omega arith in rw (eq-eqb z 0 (omega arith)) (sym (no-such-ancestor m e))
-rust-parent {x} {y} {z} (suc n) m h =
+rust-nearest x y z m l =
+    let u = half-to-29 m l in
+    rw (
+      ne-eqb z 0 (λ e. omega arith),
+      shifted-down 32 x 1 (omega arith),
+      shifted-down 32 y 1 (omega arith),
+      minus-fits z 1 l,
+      one-shifted 32 (z - 1) (omega (arith, u .zoom)),
+      lt-ltb _ _ (u .column),
+      lt-ltb _ _ (u .row),
+    )
+
+pub rust-root : (x y : ℕ) → rustParent x y 0 0 ≡ returns none
+unfolding rustParent
+rust-root x y = refl
+
+-- `parent`, "Compared for n ≤ z"
+pub rust-parent : (x y z n : ℕ) → To29 x y z → n ≤ z → read noneIsThree (rustParent x y z n) ≡ returns (parentOf x y z n)
+unfolding rustParent
+rust-parent x y zero zero m h = rw (no-such-ancestor (to-29-on-map m) h)
+rust-parent x y (suc z) zero m h = let l : 0 < suc z = omega arith in rw (rust-nearest x y (suc z) m l, nearest-parent (to-29-on-map m) l)
+rust-parent x y z (suc n) m h =
     let l : 0 < z = omega arith in
     let e : suc n - 1 ≡ n = omega arith in
-    rust-parent n (half-on-map m l) (omega arith) ∙ rw e at (parent-step {n = suc n} m l (omega arith))
+    let s = rw e at (parent-step {n = suc n} (to-29-on-map m) l (omega arith)) in
+    rw (shifted-down 32 x 1 (omega arith), shifted-down 32 y 1 (omega arith), minus-fits z 1 l)
+    (rust-parent (x / 2) (y / 2) (z - 1) n (half-to-29 m l) (omega arith) ∙ ap returns s)
 
 -- `valid` is true exactly for a tile of the map
 pub valid-means-on-the-map : (x y z : ℕ) → isTile x y z ≡ true ↔ OnMap x y z
 valid-means-on-the-map x y z = (λ e. accepted-on-map x y z (eqb-true _ _ e), λ m. eq-eqb _ _ (on-map-accepted m))
 
--- "z ≤ 29": to there the Rust's `valid` is the same
-pub rust-valid : (x y z : ℕ) → z ≤ maxZoom → rustValid x y z ≡ isTile x y z
-rust-valid x y z h = rw (le-leb 0 x (omega arith), le-leb 0 y (omega arith)) (pick (decLt x (2 ^ z)) (decLt y (2 ^ z)))
+last-column : (z : ℕ) → z ≤ 29 → rustMinmax z ≡ returns (record { min = 0; max = 2 ^ z - 1 })
+last-column z h = rw (fits 32 (2 ^ z) (power-fits h), minus-fits (2 ^ z) 1 (pow-pos z))
+
+-- `minmax`, and `valid` of any column and row
+pub rust-minmax : (z : ℕ) → z ≤ 29 → read accepted (rustMinmax z) ≡ returns (minMaxOf z)
+rust-minmax z h = rw (last-column z h, le-ltb _ _ (le-trans h at-least-29))
+
+pub rust-valid : (x y z : ℕ) → z ≤ 29 → rustValid x y z ≡ returns (isTile x y z)
+rust-valid x y z h =
+    rw (last-column z h, le-leb 0 x (omega arith), le-leb 0 y (omega arith)) (ap returns (pick (decLt x (2 ^ z)) (decLt y (2 ^ z))))
   where
+    d : z ≤ maxZoom
+    d = le-trans h at-least-29
+
     pick : Dec (x < 2 ^ z) → Dec (y < 2 ^ z) → (true && leb x (2 ^ z - 1) && true && leb y (2 ^ z - 1)) ≡ isTile x y z
     pick (yes a) (yes b) =
-        let m : OnMap x y z = record { zoom = h; column = a; row = b } in
+        let m : OnMap x y z = record { zoom = d; column = a; row = b } in
         let c : x ≤ 2 ^ z - 1 = omega arith in
-        let d : y ≤ 2 ^ z - 1 = omega arith in
-        rw (le-leb _ _ c, le-leb _ _ d, on-map-accepted m)
+        let r : y ≤ 2 ^ z - 1 = omega arith in
+        rw (le-leb _ _ c, le-leb _ _ r, on-map-accepted m)
     pick (yes a) (no b) =
         let c : x ≤ 2 ^ z - 1 = omega arith in
-        let d : 2 ^ z - 1 < y = omega (arith, pow-pos z) in
+        let r : 2 ^ z - 1 < y = omega (arith, pow-pos z) in
         let e : 2 ^ z ≤ y = omega arith in
-        rw (le-leb _ _ c, lt-leb _ _ d, off-row {x = x} {y = y} {z = z} h a e)
+        rw (le-leb _ _ c, lt-leb _ _ r, off-row {x = x} {y = y} {z = z} d a e)
     pick (no a) b =
         let c : 2 ^ z - 1 < x = omega (arith, pow-pos z) in
         let e : 2 ^ z ≤ x = omega arith in
-        rw (lt-leb _ _ c, off-column {x = x} {z = z} y h e)
+        rw (lt-leb _ _ c, off-column {x = x} {z = z} y d e)
+
+-- `flipy` of a row of the zoom; `yflip` calls it
+pub rust-flipy : (y z : ℕ) → z ≤ 29 → y < 2 ^ z → read accepted (rustFlipy y z) ≡ returns (flipyOf y z)
+rust-flipy y z h l = rw (rust-flipped-row y z h l, le-ltb _ _ (le-trans h at-least-29), lt-leb _ _ l)
 
 -- the lowest and the highest column of a zoom: the columns, and the rows, are those from `min` to `max`
 pub minmax-are-the-ends : (z : ℕ) → z ≤ maxZoom
@@ -151,5 +194,23 @@ module _ (west south east north : ℕ) where
       )
 
 -- the Rust's `bbox2zoom`, with its masks: "any 32-bit values", and in fact any numbers
-pub rust-bbox2zoom : (west south east north : ℕ) → rustBbox2zoom west south east north ≡ bbox2zoomOf west south east north
-rust-bbox2zoom west south east north = same-first _ _ (λ z. rw (masked west east z, masked south north z)) 0 28
+zooms-first : (west south east north turns z : ℕ) → z + turns ≡ 28
+    → rustZooms west south east north turns z ≡ returns (firstZoom (λ z. differ west east (31 - z) || differ south north (31 - z)) z turns)
+unfolding rustZooms firstZoom
+zooms-first west south east north zero z e = let f : 28 ≡ z = omega arith in ap returns f
+zooms-first west south east north (suc turns) z e =
+    rw (
+      fits 8 (z + 1) (omega arith),
+      minus-fits 32 (z + 1) (omega arith),
+      one-shifted 32 (32 - (z + 1)) (omega arith),
+      masked west east z,
+      masked south north z,
+      zooms-first west south east north turns (suc z) (omega arith),
+    ) (pick (differ west east (31 - z) || differ south north (31 - z)) _)
+  where
+    pick : (b : Bool) (n : ℕ) → cond b (returns z) (returns n) ≡ returns (cond b z n)
+    pick true n = refl
+    pick false n = refl
+
+pub rust-bbox2zoom : (west south east north : ℕ) → rustBbox2zoom west south east north ≡ returns (bbox2zoomOf west south east north)
+rust-bbox2zoom west south east north = zooms-first west south east north 28 0 refl

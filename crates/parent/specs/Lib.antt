@@ -1,3 +1,4 @@
 pub mod Laws
 pub mod Parents
+pub mod Rust
 pub mod Theorems
