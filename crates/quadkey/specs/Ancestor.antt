@@ -10,7 +10,7 @@ use Rattle.tile.specs.declared.Tile.{Tile}
 use Rattle.quadkey.specs.Key.{keyOf, allDigits, columnOf, rowOf, sharedLength}
 use Rattle.quadkey.specs.Laws.{key-again, digits-take, spelled-take, shared-within, shared-within-second, shared-same, shared-longest}
 
--- s is t or one of its ancestors: "x and y divided .., remainders dropped, are that tile's x and y"
+-- s is t or one of its ancestors: t's x and y, divided by as many twos as zooms lie between, remainders dropped, are its x and y
 pub record Ancestor (s t : Tile) : Type 0 where
   pub zoom : s .z ≤ t .z
   pub column : t .x / 2 ^ (t .z - s .z) ≡ s .x

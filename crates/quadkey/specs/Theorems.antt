@@ -3,7 +3,7 @@ use mathlib.Core.Path.{_≡_, refl, sym, ap, _∙_}
 use mathlib.Core.Logic.{_↔_, _⊎_}
 use mathlib.Core.Bool.{true}
 use mathlib.Core.List.{List, [], map}
-use Prim.Native.Nat.{ℕ, suc, _+_, _-_, _*_, _/_, _^_, _≤_, _<_}
+use Prim.Native.Nat.{ℕ, zero, suc, _+_, _-_, _*_, _/_, _^_, _≤_, _<_}
 use native.Mathlib.Nat.{mod-eq-of-lt}
 use native.Mathlib.Numerals.{add-one}
 use native.Mathlib.Omega.{arith}
@@ -12,9 +12,11 @@ use lib.Pow.{areBytes}
 use lib.Seq.{length-take-le}
 use borrow.Author.Tests.{le-leb, lt-ltb}
 use Rattle.bits.specs.Bits.{bit}
-use Rattle.constants.specs.Limits.{maxZoom, maxZoom-small}
-use Rattle.errors.specs.Answer.{Answer}
-use Rattle.tile.specs.OnMap.{OnMap, tileAt, on-map-accepted}
+use Rattle.bits.specs.Checked.{returns}
+use Rattle.constants.specs.Limits.{maxZoom}
+use Rattle.errors.specs.Answer.{Answer, answer}
+use Rattle.tile.specs.OnMap.{OnMap, tileAt, noTile, on-map-accepted}
+use Rattle.tile.specs.Rust.{To29}
 use Rattle.tile.specs.Steps.{flipOf}
 use Rattle.tile.specs.declared.Tile.{Tile}
 use Rattle.quadkey.specs.Key.{keyFrom, keyOf, isDigit, allDigits, flipDigit, spelled, columnOf, rowOf, keyTile}
@@ -141,23 +143,46 @@ the-flipped-tile key e =
 pub flipped-twice : (key : List ℕ) → keyRefusal key ≡ 0 → map flipDigit (map flipDigit key) ≡ key
 flipped-twice key e = flip-twice key (accepted-key key e .1)
 
--- The Rust, by the functions of Rust.antt, gives the same: the digits of `xyz2quadkey_vec` and the characters of `xyz2quadkey`,
-pub the-rusts-digits : (x y z : ℕ) → z ≤ maxZoom → rust.digitsSet x y z ≡ keyFrom 0 x y z
-the-rusts-digits x y z h = rust.digits-set x y z (omega (arith, maxZoom-small))
+-- The Rust, by the functions of Rust.antt, gives the same to zoom 29: the digits of `xyz2quadkey_vec` and the characters of `xyz2quadkey`,
+-- each list whole
+pub the-rusts-digits : (x y z : ℕ) → z ≤ 29 → rust.digitsSet x y z ≡ returns (keyFrom 0 x y z)
+the-rusts-digits x y z h = rust.digits-set x y z (omega arith)
 
-pub the-rusts-characters : (x y z i : ℕ) → z ≤ maxZoom → i < z → rust.charAt x y z i ≡ getD (keyOf x y z) i 0
-the-rusts-characters = rust.char-at
+pub the-rusts-characters : (x y z : ℕ) → z ≤ 29 → rust.chars x y z ≡ returns (keyOf x y z)
+the-rusts-characters x y z h = rust.chars-are x y z (omega arith)
 
--- the test of a byte and of a key, and the order of its two errors,
+pub the-rusts-key : (x y z : ℕ) → To29 x y z → rust.toKey x y z ≡ returns (keyOf x y z)
+the-rusts-key = rust.to-key
+
+-- the test of a byte and of a key of at most 29 bytes, and the order of its two errors,
 pub the-rusts-byte : (b : ℕ) → b < 256 → rust.isByte b ≡ isDigit b
 the-rusts-byte = rust.byte-is-digit
 
-pub the-rusts-test : (key : List ℕ) → areBytes key ≡ true → (rust.isQuadkey key ≡ isKey key) × (rust.tryNew key ≡ keyRefusal key)
-the-rusts-test key e = (rust.quadkey-is-key key e, rust.try-new-refuses key e)
+pub the-rusts-test : (key : List ℕ) → areBytes key ≡ true → length key ≤ 29
+    → (rust.isQuadkey key ≡ isKey key) × (rust.tryNew key ≡ keyRefusal key)
+the-rusts-test key e h = (rust.quadkey-is-key key e h, rust.try-new-refuses key e h)
 
--- the tile of a key, by either of its two loops,
-pub the-rusts-tile : (key : List ℕ) → keyRefusal key ≡ 0 → (rust.toXyz key ≡ tileOf key) × (rust.toXyzIter key ≡ tileOf key)
-the-rusts-tile key e = (rust.fold-is-tile key e, rust.iter-is-tile key e)
+-- of a longer key, whatever its bytes: both refuse it by its length. With a deeper zoom than 29 this would not hold
+pub the-rusts-long-keys : (key : List ℕ) → 29 < length key
+    → (rust.isQuadkey key ≡ isKey key) × (rust.tryNew key ≡ keyRefusal key) × (keyRefusal key ≡ 4)
+    × (rust.quadkey2xyz key ≡ returns (keyTile key))
+unfolding maxZoom
+the-rusts-long-keys key h =
+    let r = rust.too-long key h in
+    let e : keyRefusal key ≡ 4 = key-too-long key h in
+    (rw (r .0, e), rw (r .1, e), e, rw (r .1, e))
+
+-- the tile of a key, by either of its two loops, and with the test before it,
+pub the-rusts-tile : (key : List ℕ) → keyRefusal key ≡ 0 → length key ≤ 29
+    → (rust.toXyz key ≡ returns (tileOf key)) × (rust.toXyzIter key ≡ returns (tileOf key))
+the-rusts-tile key e h = let d = accepted-key key e .1 in (rust.fold-is-tile key d h, rust.iter-is-tile key d h)
+
+pub the-rusts-quadkey2xyz : (key : List ℕ) → areBytes key ≡ true → length key ≤ 29 → rust.quadkey2xyz key ≡ returns (keyTile key)
+the-rusts-quadkey2xyz key e h = rw (rust.try-new-refuses key e h) (pick (keyRefusal key) refl)
+  where
+    pick : (n : ℕ) → keyRefusal key ≡ n → rust.unlessError n (rust.toXyz key) ≡ returns (answer n noTile (tileOf key))
+    pick zero f = rw (the-rusts-tile key f h .0)
+    pick (suc n) f = refl
 
 -- and the flipped key: "the Rust's empty string for a bad character is refusal 5 here"
 pub the-rusts-flipped-key : (key : List ℕ)
