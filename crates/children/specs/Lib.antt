@@ -1,3 +1,4 @@
+pub mod Checked
 pub mod Children
 pub mod Laws
 pub mod Members

@@ -2,24 +2,26 @@
 use mathlib.Core.Path.{_≡_, refl, sym, ap, _∙_}
 use mathlib.Core.Logic.{_↔_}
 use mathlib.Core.List.{List, [], _∷_, _++_, map, flatMap, List·Memᴰ, List·Memᴰ·head, List·Memᴰ·tail}
+use mathlib.Core.Option.{Option, some, bind}
 use Prim.Native.Nat.{ℕ, suc, _+_, _-_, _*_, _/_, _%_, _^_, _≤_, _<_}
-use native.Mathlib.Nat.{div-one, div-lt-iff-lt-mul}
+use native.Mathlib.Nat.{div-one}
 use native.Mathlib.Omega.{arith}
 use lib.ListN.{length, take, drop, getD, length-map}
-use lib.Pow.{pow-pos, pow-add}
 use borrow.Author.Tests.{lt-ltb, le-ltb}
 use Rattle.bits.specs.Bits.{bit}
 use Rattle.constants.specs.Limits.{maxZoom}
 use Rattle.ids.specs.Entry.{entryOf, entryTile, entryRefusal, entry-accepted, entry-tile-again, entriesOf}
 use Rattle.ids.specs.Rmid.{levelStart}
+use Rattle.tile.specs.Given.{given}
 use Rattle.tile.specs.OnMap.{OnMap, tileAt, on-map-accepted}
+use Rattle.tile.specs.declared.OptionU8.{OptionU8}
 use Rattle.tile.specs.declared.Tile.{Tile}
 use Rattle.children.specs.Children.{clockwise, zOrder, gather, descendants, childrenOf}
 use Rattle.children.specs.Laws.{descend-length}
 use Rattle.children.specs.Members.{once-at, once-map, gather-part}
-use Rattle.children.specs.Queue.{descend-deeper, queue-all, rust-clockwise, rust-z-order}
-use Rattle.children.specs.Rust.{rustClockwise, rustZOrder, rustQueue}
-use Rattle.children.specs.Under.{Under, IsFamily, descend-under, under-descend, descend-once, in-either-order}
+use Rattle.children.specs.Queue.{descend-deeper, FindsChildren, queue-all, rust-clockwise, rust-z-order}
+use Rattle.children.specs.Rust.{rustClockwise, rustZOrder, rustDescend, rustChildren, rustChildrenZOrder}
+use Rattle.children.specs.Under.{Under, IsFamily, descend-under, under-descend, under-small, descend-once, in-either-order}
 
 -- "each family clockwise (digits 0, 1, 3, 2)", and "0, 1, 2, 3": both orders have each child once
 pub clockwise-is-a-family : IsFamily clockwise
@@ -85,11 +87,7 @@ as-many-descendants = descend-length
 
 -- all on the map, where their zoom is
 pub descendants-on-the-map : {x y z d : ℕ} {t : Tile} → OnMap x y z → z + d ≤ maxZoom → Under d x y z t → OnMap (t .x) (t .y) (t .z)
-descendants-on-the-map {x} {y} {z} {d} {t} m h u =
-    rw (u .zoom) (record { zoom = h; column = wide (t .x) (rw (u .column) (m .column)); row = wide (t .y) (rw (u .row) (m .row)) })
-  where
-    wide : (a : ℕ) → a / 2 ^ d < 2 ^ z → a < 2 ^ (z + d)
-    wide a l = rw (pow-add 2 z d) (div-lt-iff-lt-mul (pow-pos d) .0 l)
+descendants-on-the-map m h u = let s = under-small (m .column) (m .row) u in record { zoom = rw (u .zoom) h; column = s .0; row = s .1 }
 
 -- the numbers written are entries, each of its tile
 pub entries-lead-back : {x y z d : ℕ} {t : Tile} → OnMap x y z → z + d ≤ maxZoom → Under d x y z t
@@ -112,7 +110,7 @@ each-entry-once family f d {x} {y} {z} m h i j = once-at _ (once-map _ (descenda
         → entryOf (s .x) (s .y) (s .z) ≡ entryOf (t .x) (t .y) (t .z) → s ≡ t
     same s t k l e = sym (back s k) ∙ (ap entryTile e ∙ back t l)
 
--- "a target above 29 is 1 before 2 and 12", whatever else is wrong; the memory is left as it was
+-- document 03: "a target above 29 is 1 before 2 and 12", whatever else is wrong; the memory is left as it was
 pub a-target-too-deep : (family : List ℕ) (x y z target : ℕ) (memory : List ℕ) → maxZoom < target
     → childrenOf family x y z target memory ≡ record { number = 1; value = 0; memory = memory }
 a-target-too-deep family x y z target memory h = rw (lt-ltb _ _ h)
@@ -130,15 +128,24 @@ module _ (family : List ℕ) (size : length family ≡ 4) {x y z : ℕ} (m : OnM
   pub memory-too-short : length memory < 4 ^ (target - z) → childrenOf family x y z target memory ≡ record { number = 12; value = 0; memory = memory }
   memory-too-short l = rw (le-ltb _ _ h, on-map-accepted m, count, lt-ltb _ _ l)
 
--- the Rust's queue, after as many turns as the zooms between have tiles, or more: its loop has ended with the descendants in our order
-pub rust-children : (x y z target turns : ℕ) → levelStart (target - z) ≤ turns
-    → rustQueue rustClockwise target turns (tileAt x y z ∷ []) ≡ descendants clockwise (target - z) x y z
-rust-children x y z target turns = queue-all clockwise refl target rustClockwise rust-clockwise x y z turns
+-- The Rust is held to tiles of zoom 0 to 29 and targets to 29. On them nothing stops or wraps round, and after as many turns as the zooms
+-- between have tiles, or more, its loop has ended with the descendants in our order.
+module _ (x y z : ℕ) (zoom : OptionU8) (turns : ℕ) (deep : z ≤ 29) (column : x < 2 ^ z) (row : y < 2 ^ z)
+    (target : given zoom (z + 1) ≤ 29) (enough : levelStart (given zoom (z + 1) - z) ≤ turns) where
+  descended : (family : List ℕ) → IsFamily family → length family ≡ 4 → (four : Tile → Option (List Tile)) → FindsChildren four family
+      → rustDescend four turns x y z zoom ≡ some (descendants family (given zoom (z + 1) - z) x y z)
+  unfolding bind
+  descended family f e four g =
+      let l : z + 1 < 2 ^ 8 = omega arith in
+      rw (lt-ltb _ _ l) (queue-all family f e four g (given zoom (z + 1)) target x y z column row turns enough)
 
-pub rust-children-zorder : (x y z target turns : ℕ) → levelStart (target - z) ≤ turns
-    → rustQueue rustZOrder target turns (tileAt x y z ∷ []) ≡ descendants zOrder (target - z) x y z
-rust-children-zorder x y z target turns = queue-all zOrder refl target rustZOrder rust-z-order x y z turns
+  pub rust-children : rustChildren turns x y z zoom ≡ some (descendants clockwise (given zoom (z + 1) - z) x y z)
+  rust-children = descended clockwise clockwise-is-a-family refl rustClockwise rust-clockwise
+
+  pub rust-children-zorder : rustChildrenZOrder turns x y z zoom ≡ some (descendants zOrder (given zoom (z + 1) - z) x y z)
+  rust-children-zorder = descended zOrder z-order-is-a-family refl rustZOrder rust-z-order
 
 -- `children1_zorder`: the four tiles that the Rust names
-pub rust-children1-zorder : (x y z : ℕ) → rustZOrder (tileAt x y z) ≡ descendants zOrder (z + 1 - z) x y z
-rust-children1-zorder x y z = let e : z + 1 - z ≡ 1 = omega arith in rw e (rust-z-order (tileAt x y z))
+pub rust-children1-zorder : (x y z : ℕ) → z + 1 ≤ 29 → x < 2 ^ z → y < 2 ^ z
+    → rustZOrder (tileAt x y z) ≡ some (descendants zOrder (z + 1 - z) x y z)
+rust-children1-zorder x y z h c r = let e : z + 1 - z ≡ 1 = omega arith in rw e (rust-z-order (tileAt x y z) (omega arith) c r)

@@ -4,10 +4,10 @@ use mathlib.Core.Logic.{_↔_}
 use mathlib.Core.List.{List, [], _∷_, List·Memᴰ, List·Memᴰ·head, List·Memᴰ·tail, List·Memᴰ·not-nil, List·Memᴰ·eq-of-singleton, List·Nodup, Pairwise·nil}
 use Prim.Native.Nat.{ℕ, zero, suc, _+_, _*_, _/_, _%_, _^_, _≤_, _<_}
 use native.Mathlib.Decide.{decLe}
-use native.Mathlib.Nat.{div-one}
+use native.Mathlib.Nat.{div-one, div-lt-iff-lt-mul}
 use native.Mathlib.Numerals.{add-one}
 use native.Mathlib.Omega.{arith}
-use lib.Pow.{shr-shr}
+use lib.Pow.{pow-pos, pow-add, shr-shr}
 use Rattle.tile.specs.OnMap.{tileAt}
 use Rattle.tile.specs.Order.{tile-ext}
 use Rattle.tile.specs.declared.Tile.{Tile}
@@ -60,6 +60,13 @@ under-descend family all (suc d) x y z t u =
       column = omega (arith, u .column, one-more (t .x) d);
       row = omega (arith, u .row, one-more (t .y) d);
     }
+
+-- under a tile of the map there are tiles of the map
+pub under-small : {x y z d : ℕ} {t : Tile} → x < 2 ^ z → y < 2 ^ z → Under d x y z t → (t .x < 2 ^ t .z) × (t .y < 2 ^ t .z)
+under-small {z = z} {d = d} {t = t} c r u = rw (u .zoom) (wide (t .x) (rw (u .column) c), wide (t .y) (rw (u .row) r))
+  where
+    wide : (a : ℕ) → a / 2 ^ d < 2 ^ z → a < 2 ^ (z + d)
+    wide a l = rw (pow-add 2 z d) (div-lt-iff-lt-mul (pow-pos d) .0 l)
 
 -- a tile under two children of a tile: they are one child
 one-child : (d x y z q r : ℕ) (t : Tile) → q < 4 → r < 4 → Under d (2 * x + q % 2) (2 * y + q / 2) z t
