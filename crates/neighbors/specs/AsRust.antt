@@ -1,21 +1,24 @@
--- That the Rust's arms, and its steps by signed numbers, give the places of the square of nine.
-use mathlib.Core.Path.{_≡_, refl, sym, ap, _∙_}
+-- That the Rust's arms, and its steps by signed numbers, give the places of the square of nine, and that all of it fits the Rust's widths.
+use mathlib.Core.Path.{_≡_, refl, sym, ap}
 use mathlib.Core.Bool.{Bool, true, false, cond, _||_}
 use mathlib.Core.List.{List, [], _∷_, _++_, flatMap}
+use mathlib.Core.Option.{some}
 use Prim.Native.Nat.{ℕ, _+_, _-_, _/_, _%_, _^_, _≤_, _<_}
 use native.Mathlib.Decide.{decLt}
-use native.Mathlib.Nat.{add-mod-right, mod-eq-of-lt}
+use native.Mathlib.Nat.{add-mod-right, mod-eq-of-lt, mod-lt}
 use native.Mathlib.Numerals.{add-one}
 use native.Mathlib.Omega.{arith}
 use lib.Dec.{leb, ltb, eqb}
-use lib.IntN.{ℤ, pos, negsuc, natAbs, _+ℤ_}
+use lib.IntN.{ℤ, pos, negsuc, _+ℤ_}
+use lib.Pow.{pow-mono, pow-pos}
 use lib.Signed.{ltZ, leZ}
 use borrow.Author.Tests.{le-leb, lt-leb, le-ltb, lt-ltb, eqb-true, eqb-false}
 use Rattle.children.specs.Children.{gather}
 use Rattle.tile.specs.OnMap.{tileAt}
 use Rattle.tile.specs.declared.Tile.{Tile}
 use Rattle.neighbors.specs.Neighbors.{around, aroundWrapped, inside, near, nearWrapped}
-use Rattle.neighbors.specs.Rust.{neighborsArm, remEuclid, neighborIdxs, wrapStep, armBy, kept, struck}
+use Rattle.neighbors.specs.Rust.{plus1, minus1, computed, rustTiles, neighborsArm}
+use Rattle.neighbors.specs.Rust.{remEuclid, asU32, plusI64, shifted, filtered, wrapSteps, wrapTiles, armBy, place, tilesAt, kept, struck}
 use Rattle.neighbors.specs.Laws.{below-one, near-off-row}
 
 -- where all tiles are on the map, none is struck out
@@ -30,6 +33,16 @@ none-struck (t ∷ ts) w = rw (lt-ltb _ _ (w .0), lt-ltb _ _ (w .1)) (ap (λ (l 
 
 inside-is : (side n s a : ℕ) → n + s ≡ a + 1 → inside side n s ≡ ltb a side
 inside-is side n s a e = let h : 1 ≤ a + 1 = omega arith in rw (e, le-leb 1 (a + 1) h, add-one a)
+
+pub side-most : {z : ℕ} → z ≤ 29 → 2 ^ z ≤ 2 ^ 29
+side-most h = pow-mono {j = 29} h
+
+-- n + 1, and n - 1 where n is not 0
+next : (n : ℕ) → n < 2 ^ 29 → computed plus1 n ≡ some (n + 1)
+next n h = let l : n + 1 < 2 ^ 32 = omega arith in rw (lt-ltb _ _ l)
+
+last : (n : ℕ) → eqb n 0 ≡ false → computed minus1 n ≡ some (n - 1)
+last n e = let l : 1 ≤ n = omega (arith, eqb-false n 0 e) in rw (le-ltb _ _ l)
 
 -- a place of the square by the tile that stands there; left of column 0 and above row 0 there is none
 module _ (x y z : ℕ) where
@@ -63,8 +76,8 @@ module _ (x y z : ℕ) where
       )
 
   -- the four arms that a tile of the map may take
-  pub arm-struck : (a : Bool) → eqb x 0 ≡ a → (b : Bool) → eqb y 0 ≡ b → struck (neighborsArm (armBy a b) x y z) ≡ gather (near x y z) around
-  unfolding flatMap
+  pub arm-struck : (a : Bool) → eqb x 0 ≡ a → (b : Bool) → eqb y 0 ≡ b → struck (tilesAt (neighborsArm (armBy a b)) x y z) ≡ gather (near x y z) around
+  unfolding flatMap tilesAt
   arm-struck true p true q =
       let e = eqb-true x 0 p in
       let f = eqb-true y 0 q in
@@ -83,12 +96,21 @@ module _ (x y z : ℕ) where
       square (near-at 1 (x - 1) y (omega arith) (omega arith)) (near-at 3 x (y - 1) (omega arith) (omega arith)) (near-at 0 (x - 1) (y - 1) (omega arith) (omega arith)) (near-at 6 (x + 1) (y - 1) (omega arith) (omega arith)) (near-at 2 (x - 1) (y + 1) (omega arith) (omega arith))
 
   -- away from the right and bottom edges an arm's tiles are on the map
-  pub arm-within : (a b : Bool) → x < 2 ^ z - 1 → y < 2 ^ z - 1 → Within (neighborsArm (armBy a b) x y z)
-  unfolding Within
+  pub arm-within : (a b : Bool) → x < 2 ^ z - 1 → y < 2 ^ z - 1 → Within (tilesAt (neighborsArm (armBy a b)) x y z)
+  unfolding Within tilesAt
   arm-within true true h k = omega arith
   arm-within true false h k = omega arith
   arm-within false true h k = omega arith
   arm-within false false h k = omega arith
+
+  -- and all of them are computed, since a column or row before the tile's is asked for only where it is not 0
+  pub arm-fits : (a : Bool) → eqb x 0 ≡ a → (b : Bool) → eqb y 0 ≡ b → x < 2 ^ 29 → y < 2 ^ 29
+      → rustTiles (neighborsArm (armBy a b)) x y z ≡ some (tilesAt (neighborsArm (armBy a b)) x y z)
+  unfolding rustTiles tilesAt
+  arm-fits true p true q h k = rw (next x h, next y k)
+  arm-fits true p false q h k = rw (next x h, next y k, last y q)
+  arm-fits false p true q h k = rw (next x h, next y k, last x p)
+  arm-fits false p false q h k = rw (next x h, next y k, last x p, last y q)
 
 -- a signed step of the Rust, and the step 0, 1 or 2 that stands for it here
 data Means : ℤ → ℕ → Type 0 where
@@ -119,42 +141,68 @@ wrapped-column {d} {s} p x side h = pick (decLt 0 (x + s))
         let g : side - 1 - 0 ≡ side - 1 = omega arith in
         rw (below-zero p x e, f, mod-eq-of-lt l, mod-eq-of-lt m, g)
 
-row-kept : (side n : ℕ) (t : Tile) → cond (ltZ (pos n) (pos 0) || leZ (pos side) (pos n)) [] (t ∷ []) ≡ cond (ltb n side) (t ∷ []) []
-row-kept side n t = pick (decLt n side)
+-- neither sum leaves 64 bits
+sum-fits : {d : ℤ} {s : ℕ} → Means d s → (n : ℕ) → n < 2 ^ 29 → plusI64 (pos n) d ≡ some (pos n +ℤ d)
+sum-fits {d} {s} p n h = pick (decLt 0 (n + s))
+  where
+    step : {d : ℤ} {s : ℕ} → Means d s → s ≤ 2
+    step back = omega arith
+    step stay = omega arith
+    step on = omega arith
+
+    pick : Dec (0 < n + s) → plusI64 (pos n) d ≡ some (pos n +ℤ d)
+    pick (yes k) = let l : n + s - 1 < 2 ^ 63 = omega (arith, step p) in rw (signed-sum p n k, lt-ltb _ _ l)
+    pick (no k) = rw (below-zero p n (omega arith))
+
+row-kept : (side n : ℕ) (t : ℕ → Tile) → side ≤ 2 ^ 29
+    → cond (ltZ (pos n) (pos 0) || leZ (pos side) (pos n)) [] (t (asU32 (pos n)) ∷ []) ≡ cond (ltb n side) (t n ∷ []) []
+row-kept side n t b = pick (decLt n side)
   where
     z : 0 ≤ n
     z = omega arith
 
-    pick : Dec (n < side) → cond (ltb n 0 || leb side n) [] (t ∷ []) ≡ cond (ltb n side) (t ∷ []) []
-    pick (yes h) = rw (le-ltb n 0 z, lt-ltb n side h, lt-leb side n h)
+    pick : Dec (n < side) → cond (ltb n 0 || leb side n) [] (t (n % 2 ^ 32) ∷ []) ≡ cond (ltb n side) (t n ∷ []) []
+    pick (yes h) = let l : n < 2 ^ 32 = omega arith in rw (le-ltb n 0 z, lt-ltb n side h, lt-leb side n h, mod-eq-of-lt l)
     pick (no h) = let l : side ≤ n = omega arith in rw (le-ltb n 0 z, le-leb side n l, le-ltb n side l)
 
-wrapped-row : {d : ℤ} {s : ℕ} → Means d s → (y side : ℕ) (t : ℕ → Tile)
-    → cond (ltZ (pos y +ℤ d) (pos 0) || leZ (pos side) (pos y +ℤ d)) [] (t (natAbs (pos y +ℤ d)) ∷ []) ≡ cond (inside side y s) (t (y + s - 1) ∷ []) []
-wrapped-row {d} {s} p y side t = pick (decLt 0 (y + s))
+wrapped-row : {d : ℤ} {s : ℕ} → Means d s → (y side : ℕ) (t : ℕ → Tile) → side ≤ 2 ^ 29
+    → cond (ltZ (pos y +ℤ d) (pos 0) || leZ (pos side) (pos y +ℤ d)) [] (t (asU32 (pos y +ℤ d)) ∷ []) ≡ cond (inside side y s) (t (y + s - 1) ∷ []) []
+wrapped-row {d} {s} p y side t b = pick (decLt 0 (y + s))
   where
-    pick : Dec (0 < y + s) → cond (ltZ (pos y +ℤ d) (pos 0) || leZ (pos side) (pos y +ℤ d)) [] (t (natAbs (pos y +ℤ d)) ∷ []) ≡ cond (inside side y s) (t (y + s - 1) ∷ []) []
+    pick : Dec (0 < y + s) → cond (ltZ (pos y +ℤ d) (pos 0) || leZ (pos side) (pos y +ℤ d)) [] (t (asU32 (pos y +ℤ d)) ∷ []) ≡ cond (inside side y s) (t (y + s - 1) ∷ []) []
     pick (yes k) =
         let e : y + s ≡ y + s - 1 + 1 = omega arith in
-        rw (signed-sum p y k, inside-is side y s (y + s - 1) e) (row-kept side (y + s - 1) (t (y + s - 1)))
+        rw (signed-sum p y k, inside-is side y s (y + s - 1) e) (row-kept side (y + s - 1) t b)
     pick (no k) =
         let e : y + s ≡ 0 = omega arith in
         let l : y + s < 1 = omega arith in
         rw (below-zero p y e, below-one side y s l)
 
-wrapped-step : (x y z s : ℕ) {dx dy : ℤ} → Means dx (s / 3) → Means dy (s % 3) → x < 2 ^ z → wrapStep x y z dx dy ≡ nearWrapped x y z s
-wrapped-step x y z s {dx} p q h = wrapped-row q y (2 ^ z) (λ r. tileAt (remEuclid (pos x +ℤ dx) (2 ^ z)) r z) ∙ rw (wrapped-column p x (2 ^ z) h)
+-- one step, and all eight, of a tile of zoom 0 to 29
+module _ (x y z : ℕ) (deep : z ≤ 29) (column : x < 2 ^ z) (row : y < 2 ^ z) where
+  wrapped-step : (s : ℕ) {dx dy : ℤ} → Means dx (s / 3) → Means dy (s % 3)
+      → filtered (2 ^ z) z (plusI64 (pos x) dx) (plusI64 (pos y) dy) ≡ some (nearWrapped x y z s)
+  wrapped-step s {dx} {dy} p q =
+      let m = side-most deep in
+      let c : remEuclid (pos x +ℤ dx) (2 ^ z) ≡ (x + s / 3 + 2 ^ z - 1) % 2 ^ z = wrapped-column p x (2 ^ z) column in
+      let l : (x + s / 3 + 2 ^ z - 1) % 2 ^ z < 2 ^ 32 = omega (arith, mod-lt (x + s / 3 + 2 ^ z - 1) (pow-pos z)) in
+      rw (sum-fits p x (omega arith), sum-fits q y (omega arith), c, mod-eq-of-lt l)
+      (ap some (wrapped-row q y (2 ^ z) (λ r. tileAt ((x + s / 3 + 2 ^ z - 1) % 2 ^ z) r z) m))
 
-pub wrapped-square : (x y z : ℕ) → x < 2 ^ z → flatMap (λ (d : ℤ × ℤ). wrapStep x y z (d .0) (d .1)) neighborIdxs ≡ gather (nearWrapped x y z) aroundWrapped
-unfolding flatMap gather
-wrapped-square x y z h =
-    rw (
-      wrapped-step x y z 0 back back h,
-      wrapped-step x y z 1 back stay h,
-      wrapped-step x y z 2 back on h,
-      wrapped-step x y z 3 stay back h,
-      wrapped-step x y z 5 stay on h,
-      wrapped-step x y z 6 on back h,
-      wrapped-step x y z 7 on stay h,
-      wrapped-step x y z 8 on on h,
-    )
+  pub wrapped-square : wrapTiles (shifted z) x y z ≡ some (gather (nearWrapped x y z) aroundWrapped)
+  unfolding wrapSteps gather
+  wrapped-square =
+      let l : z < 32 = omega arith in
+      let m : 2 ^ z < 2 ^ 32 = omega (arith, side-most deep) in
+      rw (
+        lt-ltb _ _ l,
+        mod-eq-of-lt m,
+        wrapped-step 0 back back,
+        wrapped-step 1 back stay,
+        wrapped-step 2 back on,
+        wrapped-step 3 stay back,
+        wrapped-step 5 stay on,
+        wrapped-step 6 on back,
+        wrapped-step 7 on stay,
+        wrapped-step 8 on on,
+      )
