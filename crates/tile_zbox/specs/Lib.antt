@@ -7,3 +7,4 @@ pub mod ListLaws
 pub mod Tiles
 pub mod Theorems
 pub mod Rust
+pub mod RustNext

@@ -1,156 +1,193 @@
--- What the Rust does with boxes, as functions on values, where that is not the definition's own text, and that it comes to the same.
-use mathlib.Core.Path.{_≡_, refl, sym, ap, _∙_, subst}
-use mathlib.Core.Bool.{Bool, true, false, cond}
-use mathlib.Core.List.{List, [], _∷_, map}
+-- What the Rust does with boxes, as functions on values, and that for boxes of zoom 0 to 29 it comes to the definitions. Columns and rows
+-- have 32 bits and zooms 8: what leaves them wraps round here, so that the exact numbers come out only where nothing does.
+use mathlib.Core.Path.{_≡_, refl, sym, ap, _∙_}
+use mathlib.Core.Bool.{Bool, true, false, cond, _&&_}
+use mathlib.Core.List.{List, [], _∷_, map, List·Memᴰ, List·Memᴰ·head, List·Memᴰ·tail}
 use Prim.Native.Nat.{ℕ, zero, suc, _+_, _-_, _*_, _%_, _^_, _≤_, _<_, min, max}
-use native.Mathlib.Decide.{decLt}
-use native.Mathlib.Nat.{le-of-lt, min-eq-left, min-eq-right, max-eq-left, max-eq-right, suc-mul, mul-comm, mod-eq-of-lt, le-of-mul-le-mul-right, lt-of-mul-lt-mul-right}
+use native.Mathlib.Nat.{le-of-lt, min-eq-left, min-eq-right, max-eq-left, max-eq-right, mod-eq-of-lt}
 use native.Mathlib.Omega.{arith}
-use lib.Arith.{digits-lt}
-use lib.Dec.{ltb, eqb}
+use lib.Dec.{leb, ltb, eqb}
+use lib.ListN.{length}
+use lib.Pow.{pow-mono}
 use borrow.Author.Tests.{lt-ltb, le-ltb, ltb-true, ltb-false}
 use Rattle.bits.specs.Tests.{allOf, and-parts}
 use Rattle.ids.specs.Entry.{entryTile}
-use Rattle.tile.specs.OnMap.{tileAt, side-small}
 use Rattle.tile.specs.declared.Tile.{Tile}
-use Rattle.tile_zbox.specs.Around.{ofZoom, listRefusal, least, greatest, columnOf, rowOf, boxAround}
-use Rattle.tile_zbox.specs.Box.{IsBox, boxAt, columnsOf, rowsOf, boxLength, zoomedIn, zoomedBy}
-use Rattle.tile_zbox.specs.Cursor.{kthTile}
+use Rattle.tile_zbox.specs.Around.{ofZoom, firstZoom, listRefusal, least, greatest, columnOf, rowOf, boxAround}
+use Rattle.tile_zbox.specs.Box.{IsBox, boxAt, extentAt, inBox, flipped, columnsOf, rowsOf, boxLength, zoomedIn, zoomedBy}
+use Rattle.tile_zbox.specs.Boxes.{sumLengths}
+use Rattle.tile_zbox.specs.Laws.{scaled-below}
 use Rattle.tile_zbox.specs.ListLaws.{accepted-one-zoom}
 use Rattle.tile_zbox.specs.Theorems.{zoomed-again, zoomed-by-0, from-tiles-gives-a-box}
-use Rattle.tile_zbox.specs.Tiles.{kth-place}
+use Rattle.tile_zbox.specs.declared.Extent.{Extent}
 use Rattle.tile_zbox.specs.declared.TileZBox.{TileZBox}
 
--- `length` multiplies in 32 bits: the same where the product is below 2^32
-abbrev pub rustLength : TileZBox → ℕ
-rustLength b = columnsOf b * rowsOf b % 2 ^ 32
+-- a number cut to 32 bits, and a - b in them
+abbrev pub u32 : ℕ → ℕ
+u32 n = n % 2 ^ 32
 
-pub rust-length : (b : TileZBox) → boxLength b < 2 ^ 32 → rustLength b ≡ boxLength b
-unfolding boxLength
-rust-length b h = mod-eq-of-lt h
+abbrev pub less : ℕ → ℕ → ℕ
+less a b = u32 (a + 2 ^ 32 - b)
+
+-- the boxes that the Rust is held to
+pub record Compared (b : TileZBox) : Type 0 where
+  pub zoom : b .zoom ≤ 29
+  pub columns : b .minx ≤ b .maxx
+  pub east : b .maxx < 2 ^ b .zoom
+  pub rows : b .miny ≤ b .maxy
+  pub south : b .maxy < 2 ^ b .zoom
+
+-- all boxes of the map of these zooms are
+pub boxes-compared : {b : TileZBox} → IsBox b → b .zoom ≤ 29 → Compared b
+boxes-compared i d = record { zoom = d; columns = i .columns; east = i .east; rows = i .rows; south = i .south }
+
+pub edges-small : {b : TileZBox} → Compared b → (b .maxx < 2 ^ 29) × (b .maxy < 2 ^ 29)
+edges-small c = let s = pow-mono {j = 29} (c .zoom) in (omega (arith, c .east), omega (arith, c .south))
+
+less-is : (a b : ℕ) → b ≤ a → a < 2 ^ 32 → less a b ≡ a - b
+less-is a b h k = omega arith
+
+-- `dx`, `dy`, `width`, `height`, `dxdy`
+abbrev pub rustDxdy : TileZBox → Extent
+rustDxdy b = extentAt (less (b .maxx) (b .minx)) (less (b .maxy) (b .miny))
+
+-- `dimensions`
+abbrev pub rustDimensions : TileZBox → Extent
+rustDimensions b = extentAt (u32 (less (b .maxx) (b .minx) + 1)) (u32 (less (b .maxy) (b .miny) + 1))
+
+-- `length` multiplies in 32 bits
+abbrev pub rustLength : TileZBox → ℕ
+rustLength b = u32 (rustDimensions b .across * rustDimensions b .down)
+
+-- `fns::flipy`, and `flipy` of a box
+abbrev pub rustFlipRow : ℕ → ℕ → ℕ
+rustFlipRow y z = less (less (u32 (2 ^ z)) 1) y
+
+abbrev pub rustFlipy : TileZBox → TileZBox
+rustFlipy b = boxAt (b .zoom) (b .minx) (b .maxx) (rustFlipRow (b .maxy) (b .zoom)) (rustFlipRow (b .miny) (b .zoom))
+
+-- `zoom_in`
+abbrev pub rustZoomIn : TileZBox → TileZBox
+rustZoomIn b =
+    boxAt ((b .zoom + 1) % 2 ^ 8) (u32 (b .minx * 2)) (u32 (u32 (b .maxx * 2) + 1)) (u32 (b .miny * 2)) (u32 (u32 (b .maxy * 2) + 1))
+
+module _ (b : TileZBox) (c : Compared b) where
+  spans : (less (b .maxx) (b .minx) ≡ b .maxx - b .minx) × (less (b .maxy) (b .miny) ≡ b .maxy - b .miny)
+  spans = let s = edges-small c in (less-is _ _ (c .columns) (omega arith), less-is _ _ (c .rows) (omega arith))
+
+  pub rust-dxdy : rustDxdy b ≡ extentAt (b .maxx - b .minx) (b .maxy - b .miny)
+  rust-dxdy = rw (spans .0, spans .1)
+
+  pub rust-dimensions : rustDimensions b ≡ extentAt (columnsOf b) (rowsOf b)
+  rust-dimensions =
+      let s = edges-small c in
+      let p : columnsOf b < 2 ^ 32 = omega arith in
+      let q : rowsOf b < 2 ^ 32 = omega arith in
+      rw (spans .0, spans .1, mod-eq-of-lt p, mod-eq-of-lt q)
+
+  -- "the Rust multiplies in 32 bits and is compared where the product is below 2^32"
+  pub rust-length : boxLength b < 2 ^ 32 → rustLength b ≡ boxLength b
+  unfolding boxLength
+  rust-length h = ap (λ (e : Extent). u32 (e .across * e .down)) rust-dimensions ∙ mod-eq-of-lt h
+
+  pub rust-flipy : rustFlipy b ≡ flipped b
+  unfolding flipped
+  rust-flipy =
+      let s = pow-mono {j = 29} (c .zoom) in
+      let p : 2 ^ b .zoom < 2 ^ 32 = omega arith in
+      let row : (y : ℕ) → y < 2 ^ b .zoom → rustFlipRow y (b .zoom) ≡ 2 ^ b .zoom - 1 - y =
+      λ y l. rw (mod-eq-of-lt p, less-is (2 ^ b .zoom) 1 (omega arith) p, less-is (2 ^ b .zoom - 1) y (omega arith) (omega arith)) in
+      rw (row (b .maxy) (c .south), row (b .miny) (omega (arith, c .rows, c .south)))
+
+  pub rust-zoom-in : b .zoom + 1 ≤ 29 → rustZoomIn b ≡ zoomedIn b
+  unfolding zoomedIn
+  rust-zoom-in d =
+      let s = edges-small c in
+      let e : (b .zoom + 1) % 2 ^ 8 ≡ b .zoom + 1 = omega arith in
+      let low : (n : ℕ) → n < 2 ^ 29 → u32 (n * 2) ≡ n * 2 = λ n l. mod-eq-of-lt (omega arith) in
+      let high : (n : ℕ) → n < 2 ^ 29 → u32 (n * 2 + 1) ≡ n * 2 + 1 = λ n l. mod-eq-of-lt (omega arith) in
+      rw (
+        e,
+        low (b .minx) (omega (arith, c .columns)),
+        low (b .maxx) (s .0),
+        high (b .maxx) (s .0),
+        low (b .miny) (omega (arith, c .rows)),
+        low (b .maxy) (s .1),
+        high (b .maxy) (s .1),
+      )
+
+  zoomed-in-compared : b .zoom + 1 ≤ 29 → Compared (zoomedIn b)
+  unfolding zoomedIn
+  zoomed-in-compared d = record {
+    zoom = d;
+    columns = omega (arith, c .columns);
+    east = scaled-below (b .zoom) 1 (c .east);
+    rows = omega (arith, c .rows);
+    south = scaled-below (b .zoom) 1 (c .south);
+  }
 
 -- `zoom_depth` calls `zoom_in` while the zoom is above the target, here with a bound on its turns
 unfoldable pub rustDeeper : ℕ → ℕ → TileZBox → TileZBox
 rustDeeper zero target b = b
-rustDeeper (suc turns) target b = cond (ltb (b .zoom) target) (rustDeeper turns target (zoomedIn b)) b
+rustDeeper (suc turns) target b = cond (ltb (b .zoom) target) (rustDeeper turns target (rustZoomIn b)) b
 
-pub rust-zoom-depth : (b : TileZBox) (d : ℕ) → rustDeeper d (b .zoom + d) b ≡ zoomedBy b d
+abbrev pub rustZoomDepth : ℕ → TileZBox → ℕ → TileZBox
+rustZoomDepth turns b d = rustDeeper turns ((b .zoom + d) % 2 ^ 8) b
+
+deeper : (b : TileZBox) (d turns : ℕ) → Compared b → b .zoom + d ≤ 29 → d ≤ turns → rustDeeper turns (b .zoom + d) b ≡ zoomedBy b d
 unfolding rustDeeper zoomedIn
-rust-zoom-depth b zero = sym (zoomed-by-0 b)
-rust-zoom-depth b (suc d) =
-    let h : b .zoom < b .zoom + suc d = omega arith in
+deeper b zero zero c l h = sym (zoomed-by-0 b)
+deeper b zero (suc turns) c l h = let e : b .zoom + 0 ≤ b .zoom = omega arith in rw (le-ltb _ _ e) (sym (zoomed-by-0 b))
+deeper b (suc d) zero c l h = absurd (omega arith)
+deeper b (suc d) (suc turns) c l h =
+    let k : b .zoom < b .zoom + suc d = omega arith in
+    let m : b .zoom + 1 ≤ 29 = omega arith in
     let e : b .zoom + suc d ≡ b .zoom + 1 + d = omega arith in
-    rw (lt-ltb _ _ h, e) (rust-zoom-depth (zoomedIn b) d ∙ zoomed-again b d)
+    rw (lt-ltb _ _ k, rust-zoom-in b c m, e) (deeper (zoomedIn b) d turns (zoomed-in-compared b c m) (omega arith) (omega arith) ∙ zoomed-again b d)
 
--- the iterator's state: the column and the row that come next; the column may be one past the last, and the row then moves on with the next call
-pub record RustState : Type 0 where
-  pub column : ℕ
-  pub row : ℕ
+-- after as many turns as zooms, or more, the loop has ended
+pub rust-zoom-depth : (b : TileZBox) (d turns : ℕ) → Compared b → b .zoom + d ≤ 29 → d ≤ turns → rustZoomDepth turns b d ≡ zoomedBy b d
+rust-zoom-depth b d turns c l h = let e : (b .zoom + d) % 2 ^ 8 ≡ b .zoom + d = omega arith in rw e (deeper b d turns c l h)
 
--- `next`: how many tiles it gives, that tile, and the state after it
-pub record RustNext : Type 0 where
-  pub count : ℕ
-  pub tile : Tile
-  pub state : RustState
+-- `contains_tile`, test by test
+abbrev pub rustContains : TileZBox → ℕ → ℕ → ℕ → Bool
+rustContains b x y z = (((eqb z (b .zoom) && leb (b .minx) x) && leb x (b .maxx)) && leb (b .miny) y) && leb y (b .maxy)
 
-abbrev pub stateAt : ℕ → ℕ → RustState
-stateAt x y = record { column = x; row = y }
-
-abbrev pub rustTurned : TileZBox → RustState → RustState
-rustTurned b s = cond (ltb (b .maxx) (s .column)) (stateAt (b .minx) (s .row + 1)) s
-
-abbrev pub rustStep : TileZBox → RustState → RustNext
-rustStep b s =
-    cond (ltb (b .maxy) (s .row)) (record { count = 0; tile = tileAt 0 0 0; state = s })
-    (record { count = 1; tile = tileAt (s .column) (s .row) (b .zoom); state = stateAt (s .column + 1) (s .row) })
-
-abbrev pub rustNext : TileZBox → RustState → RustNext
-rustNext b s = rustStep b (rustTurned b s)
-
--- the state after k tiles
-pub record After (b : TileZBox) (k : ℕ) (s : RustState) : Type 0 where
-  pub west : b .minx ≤ s .column
-  pub east : s .column ≤ b .maxx + 1
-  pub north : b .miny ≤ s .row
-  pub place : (s .row - b .miny) * columnsOf b + (s .column - b .minx) ≡ k
-
-pub rust-starts : (b : TileZBox) → IsBox b → After b 0 (stateAt (b .minx) (b .miny))
-rust-starts b i =
-    let e : b .miny - b .miny ≡ 0 = omega arith in
-    record { west = omega arith; east = omega (arith, i .columns); north = omega arith; place = rw e (omega arith) }
-
--- the row's end, turned or not, is the same place; and then the column is one of the box
-row-turned : (b : TileZBox) (k : ℕ) (s : RustState) → IsBox b → After b k s → b .maxx < s .column → After b k (stateAt (b .minx) (s .row + 1))
-row-turned b k s i a h =
-    let n = a .north in
-    let w : s .column - b .minx ≡ columnsOf b = omega (arith, a .west, a .east, i .columns) in
-    let r : s .row + 1 - b .miny ≡ suc (s .row - b .miny) = omega arith in
-    let z : b .minx - b .minx ≡ 0 = omega arith in
-    let p : (s .row - b .miny) * columnsOf b + columnsOf b ≡ k = rw w at (a .place) in
-    record { west = omega arith; east = omega (arith, i .columns); north = omega arith; place = rw (r, z, suc-mul (s .row - b .miny) (columnsOf b)) (omega arith) }
-
-turned-after : (b : TileZBox) (k : ℕ) (s : RustState) → IsBox b → After b k s → After b k (rustTurned b s) × (rustTurned b s .column ≤ b .maxx)
-turned-after b k s i a = pick (ltb (b .maxx) (s .column)) refl
+pub rust-contains-tile : (b : TileZBox) (x y z : ℕ) → rustContains b x y z ≡ inBox b x y z
+unfolding inBox
+rust-contains-tile b x y z = pick (eqb z (b .zoom)) (leb (b .minx) x) (leb x (b .maxx)) (leb (b .miny) y) (leb y (b .maxy))
   where
-    pick : (t : Bool) → ltb (b .maxx) (s .column) ≡ t
-        → After b k (cond t (stateAt (b .minx) (s .row + 1)) s) × (cond t (stateAt (b .minx) (s .row + 1)) s .column ≤ b .maxx)
-    pick true e = (row-turned b k s i a (ltb-true _ _ e), i .columns)
-    pick false e = (a, ltb-false _ _ e)
+    pick : (p q r s t : Bool) → (((p && q) && r) && s) && t ≡ p && ((q && r) && (s && t))
+    pick false q r s t = refl
+    pick true false r s t = refl
+    pick true true false s t = refl
+    pick true true true s t = refl
 
--- the row is one of the box exactly before all tiles were given
-row-inside : (b : TileZBox) (k : ℕ) (s : RustState) → IsBox b → After b k s → k < boxLength b → s .row ≤ b .maxy
-unfolding boxLength
-row-inside b k s i a h =
-    let p = a .place in
-    let q : (s .row - b .miny) * columnsOf b < rowsOf b * columnsOf b = rw (mul-comm (rowsOf b) (columnsOf b)) (omega arith) in
-    let l = lt-of-mul-lt-mul-right (columnsOf b) q in
-    omega (arith, i .rows, a .north)
+-- `TileZBoxes::length`: a sum of 64 bits over the boxes
+unfoldable pub rustSum : ℕ → List TileZBox → ℕ
+rustSum total [] = total
+rustSum total (b ∷ bs) = rustSum ((total + rustLength b) % 2 ^ 64) bs
 
-row-past : (b : TileZBox) (s : RustState) → IsBox b → After b (boxLength b) s → s .column ≤ b .maxx → b .maxy < s .row
-unfolding boxLength
-row-past b s i a l = pick (decLt (b .maxy) (s .row))
-  where
-    pick : Dec (b .maxy < s .row) → b .maxy < s .row
-    pick (yes h) = h
-    pick (no h) =
-        let w : s .column - b .minx < columnsOf b = omega (arith, a .west) in
-        let r : s .row - b .miny < rowsOf b = omega (arith, a .north) in
-        absurd (omega (arith, digits-lt r w, a .place, mul-comm (rowsOf b) (columnsOf b)))
+summed : (bs : List TileZBox) (total : ℕ) → ((b : TileZBox) → List·Memᴰ b bs → Compared b × (boxLength b < 2 ^ 32))
+    → total + length bs * 2 ^ 32 ≤ 2 ^ 63
+    → rustSum total bs ≡ total + sumLengths bs
+unfolding rustSum sumLengths
+summed [] total h l = omega arith
+summed (b ∷ bs) total h l =
+    let k = h b (List·Memᴰ·head refl) in
+    let e = rust-length b (k .0) (k .1) in
+    let f : (total + boxLength b) % 2 ^ 64 ≡ total + boxLength b = mod-eq-of-lt (omega (arith, k .1)) in
+    rw (e, f) (summed bs (total + boxLength b) (λ c m. h c (List·Memᴰ·tail m)) (omega (arith, k .1)) ∙ omega arith)
 
-step-inside : (b : TileZBox) (k : ℕ) (s : RustState) → After b k s → s .column ≤ b .maxx → s .row ≤ b .maxy
-    → (rustStep b s .count ≡ 1) × (rustStep b s .tile ≡ kthTile b k) × After b (k + 1) (rustStep b s .state)
-step-inside b k s a l r =
-    let x : b .minx + (s .column - b .minx) ≡ s .column = omega (arith, a .west) in
-    let y : b .miny + (s .row - b .miny) ≡ s .row = omega (arith, a .north) in
-    let t : tileAt (s .column) (s .row) (b .zoom) ≡ kthTile b k =
-    sym (ap (kthTile b) (sym (a .place)) ∙ (kth-place b (s .row - b .miny) (s .column - b .minx) (omega (arith, a .west)) ∙ rw (x, y))) in
-    let p : s .column + 1 - b .minx ≡ s .column - b .minx + 1 = omega (arith, a .west) in
-    rw (le-ltb _ _ r) (refl, t, record { west = omega (arith, a .west); east = omega arith; north = a .north; place = rw p (omega (arith, a .place)) })
+-- of up to 32 boxes, each with a product below 2^32
+pub rust-boxes-length : (bs : List TileZBox) → ((b : TileZBox) → List·Memᴰ b bs → Compared b × (boxLength b < 2 ^ 32)) → length bs ≤ 32
+    → rustSum 0 bs ≡ sumLengths bs
+rust-boxes-length bs h l = summed bs 0 h (omega arith) ∙ omega arith
 
-step-past : (b : TileZBox) (s : RustState) → b .maxy < s .row → (rustStep b s .count ≡ 0) × (rustStep b s .state ≡ s)
-step-past b s h = rw (lt-ltb _ _ h) (refl, refl)
-
--- after k tiles, fewer than the box has, the Rust gives tile number k and is after k + 1
-pub rust-gives : (b : TileZBox) (k : ℕ) (s : RustState) → IsBox b → After b k s → k < boxLength b
-    → (rustNext b s .count ≡ 1) × (rustNext b s .tile ≡ kthTile b k) × After b (k + 1) (rustNext b s .state)
-rust-gives b k s i a h = let t = turned-after b k s i a in step-inside b k (rustTurned b s) (t .0) (t .1) (row-inside b k (rustTurned b s) i (t .0) h)
-
--- after all of them it gives none, and is still after all of them
-pub rust-ends : (b : TileZBox) (s : RustState) → IsBox b → After b (boxLength b) s → (rustNext b s .count ≡ 0) × After b (boxLength b) (rustNext b s .state)
-rust-ends b s i a =
-    let t = turned-after b (boxLength b) s i a in
-    let p = step-past b (rustTurned b s) (row-past b (rustTurned b s) i (t .0) (t .1)) in
-    (p .0, subst (After b (boxLength b)) (sym (p .1)) (t .0))
-
--- up to there its column and row fit 32 bits with room for one more, so that no sum of the Rust's wraps
-pub rust-fits : (b : TileZBox) (k : ℕ) (s : RustState) → IsBox b → After b k s → k ≤ boxLength b → (s .column ≤ 2 ^ 30) × (s .row ≤ 2 ^ 30)
-unfolding boxLength
-rust-fits b k s i a h =
-    let w = side-small (i .zoom) in
-    let p : (s .row - b .miny) * columnsOf b ≤ rowsOf b * columnsOf b = rw (mul-comm (rowsOf b) (columnsOf b)) (omega (arith, a .place)) in
-    let o : 0 < columnsOf b = omega arith in
-    let r = le-of-mul-le-mul-right p o in
-    (omega (arith, a .east, i .east), omega (arith, a .north, i .rows, i .south))
+-- `TileZBoxes::flipy`
+pub rust-boxes-flipy : (bs : List TileZBox) → ((b : TileZBox) → List·Memᴰ b bs → Compared b) → map rustFlipy bs ≡ map flipped bs
+rust-boxes-flipy [] h = refl
+rust-boxes-flipy (b ∷ bs) h = rw (rust-flipy b (h b (List·Memᴰ·head refl)), rust-boxes-flipy bs (λ c m. h c (List·Memᴰ·tail m)))
 
 -- `from_tiles`: the four numbers start at u32::MAX and 0, and each tile moves them; the first one's zoom is expected of all
 pub record Found : Type 0 where
@@ -228,14 +265,15 @@ walked n (m ∷ ms) b e =
     let h = and-parts (ofZoom (b .zoom) n) (allOf (ofZoom (b .zoom)) (m ∷ ms)) e in
     walk-fine b (entryTile n) (map entryTile (m ∷ ms)) (h .0) ∙ (walked m ms (moved b (entryTile n)) (h .1) ∙ ap (λ (v : TileZBox). record { fine = true; box = v }) (moved-more b n m ms))
 
--- of a list that is not refused it is the same box
-pub rust-from-tiles : (l : List ℕ) → listRefusal l ≡ 0 → rustFromTiles (map entryTile l) ≡ record { fine = true; box = boxAround l }
+-- of a list of tiles of zoom 0 to 29 that is not refused it is the same box
+pub rust-from-tiles : (l : List ℕ) → listRefusal l ≡ 0 → firstZoom l ≤ 29
+    → rustFromTiles (map entryTile l) ≡ record { fine = true; box = boxAround l }
 unfolding rustFromTiles boxAround
-rust-from-tiles [] e = let s = accepted-one-zoom [] e .some in absurd (omega arith)
-rust-from-tiles (n ∷ ns) e =
+rust-from-tiles [] e d = let s = accepted-one-zoom [] e .some in absurd (omega arith)
+rust-from-tiles (n ∷ ns) e d =
     let k = accepted-one-zoom (n ∷ ns) e in
     let i = from-tiles-gives-a-box (n ∷ ns) e in
-    let w = side-small (i .zoom) in
+    let w = pow-mono {j = 29} d in
     let p : min (2 ^ 32 - 1) (least (map columnOf (n ∷ ns))) ≡ least (map columnOf (n ∷ ns)) = omega (arith, i .columns, i .east) in
     let r : min (2 ^ 32 - 1) (least (map rowOf (n ∷ ns))) ≡ least (map rowOf (n ∷ ns)) = omega (arith, i .rows, i .south) in
     let q : max 0 (greatest (map columnOf (n ∷ ns))) ≡ greatest (map columnOf (n ∷ ns)) = omega arith in

@@ -77,7 +77,7 @@ contains-exactly-the-tiles b t i m =
     told : containsOf b (t .x) (t .y) (t .z) .value ≡ inBox b (t .x) (t .y) (t .z)
     told = rw (le-ltb _ _ (i .zoom), on-map-accepted m, box-accepted i)
 
--- "another zoom than the box's is false"
+-- document 03: "another zoom than the box's is false"
 pub another-zoom-is-false : (b : TileZBox) (x y z : ℕ) → IsBox b → OnMap x y z → (z ≡ b .zoom → ⊥) → containsOf b x y z ≡ record { number = 0; value = false }
 another-zoom-is-false b x y z i m h = rw (le-ltb _ _ (i .zoom), on-map-accepted m, box-accepted i) (ap (λ (v : Bool). record { number = 0; value = v }) (out (inBox b x y z) refl))
   where
@@ -155,7 +155,7 @@ zoom-depth-is-so-many-times-zoom-in b (suc d) i h =
     let e : zoomInOf b ≡ record { number = 0; value = zoomedIn b } = rw (le-ltb _ _ l, box-accepted i) in
     rw (← zoomed-again b d) (once-more e (zoom-depth-is-so-many-times-zoom-in (zoomedIn b) d (zoomed-in-is-a-box i l) (omega arith)))
 
--- "By 0 the box itself"
+-- document 03: "By 0 the box itself"
 pub by-0-the-box-itself : (b : TileZBox) → IsBox b → zoomDepthOf b 0 ≡ record { number = 0; value = b }
 by-0-the-box-itself b i =
     let l : b .zoom + 0 ≤ maxZoom = omega (arith, i .zoom) in
@@ -258,7 +258,7 @@ pub a-wrong-box-is-10 : (bs : List TileZBox) (b : TileZBox) → anyOf deep bs �
 unfolding refusalOver
 a-wrong-box-is-10 bs b e h m w = rw (e, le-ltb _ _ h, in-any wrongEdges bs m w)
 
--- "No box: 0"
+-- document 03: "No box: 0"
 pub no-box-is-0 : boxesLengthOf [] ≡ record { number = 0; value = 0 }
 unfolding sumLengths
 no-box-is-0 = boxes-length-is-the-sum [] none (omega arith)
