@@ -1,7 +1,7 @@
 -- The Rust's own way through bits and lists leads to document 01's sets, lists and runs.
 use mathlib.Core.Path.{_≡_, refl, sym, ap, _∙_}
 use mathlib.Core.Bool.{Bool, true, false, cond, not, _&&_, _||_, and-false, or-assoc, or-false}
-use mathlib.Core.List.{List, [], _∷_, _++_, map, append-nil}
+use mathlib.Core.List.{List, [], _∷_, _++_, map, append-nil, List·Memᴰ, List·Memᴰ·head, List·Memᴰ·tail}
 use Prim.Native.Nat.{ℕ, zero, suc, _-_, _/_, _^_, _≤_, _<_}
 use native.Mathlib.Nat.{lt-of-le-of-lt, le-refl}
 use native.Mathlib.Omega.{arith}
@@ -10,6 +10,7 @@ use lib.Dec.{eqb, ltb, leb}
 use lib.Pow.{pow-lt, pow-pos}
 use lib.Bits.{bitAnd, and-le-r}
 use borrow.Author.Tests.{lt-ltb, le-ltb, lt-leb, ltb-false, le-leb, eq-eqb, ne-eqb}
+use Rattle.bits.specs.Powers.{pow-within}
 use Rattle.zoom.specs.Bits.{hasBit, those, setOf, between}
 use Rattle.zoom.specs.Cover.{fromTo}
 use Rattle.zoom.specs.Laws.{set-below, set-with, set-same, set-none, same-bits, those-same, bit-of-set, bit-past, bit-and, bit-half, bit-of-power}
@@ -44,12 +45,12 @@ mask-of a i b e =
     bit false e k (yes l) h = rw (ne-eqb k i (λ d. omega arith), and-false (hasBit a k)) (sym (no-bits k))
     bit false e k (no l) h = let d : k ≡ i = omega arith in rw (d, e) (sym (no-bits i))
 
-pub masked-is : (a i : ℕ) → masked a i ≡ hasBit a i
-masked-is a i = pick (hasBit a i) refl
+pub masked-is : (a i : ℕ) → i < 32 → masked a i ≡ hasBit a i
+masked-is a i h = pick (hasBit a i) refl
   where
     pick : (b : Bool) → hasBit a i ≡ b → masked a i ≡ b
-    pick true e = rw (mask-of a i true e, ne-eqb (2 ^ i) 0 (λ z. omega (arith, pow-pos i)))
-    pick false e = rw (mask-of a i false e)
+    pick true e = rw (pow-within i 32 h, mask-of a i true e, ne-eqb (2 ^ i) 0 (λ z. omega (arith, pow-pos i)))
+    pick false e = rw (pow-within i 32 h, mask-of a i false e)
 
 filter-append : (test : ℕ → Bool) (l m : List ℕ) → filter test (l ++ m) ≡ filter test l ++ filter test m
 unfolding filter
@@ -78,7 +79,8 @@ turned-unmarked zset = bit-past (reverseBits zset / 2) turnBit turnBit (omega (a
 
 straight : (calls zset : ℕ) → hasBit zset turnBit ≡ false → zset2zvec (suc calls) zset ≡ those (hasBit zset) (suc lastZoom)
 unfolding zset2zvec
-straight calls zset e = rw (masked-is zset 31, e) (filter-range (masked zset) 31 ∙ those-same (masked zset) (hasBit zset) 31 (λ i l. masked-is zset i))
+straight calls zset e =
+    rw (masked-is zset 31 (omega arith), e) (filter-range (masked zset) 31 ∙ those-same (masked zset) (hasBit zset) 31 (λ i l. masked-is zset i (omega arith)))
 
 pub turned-zooms : (calls zset : ℕ) → zset2zvecRev (suc calls) zset ≡ zoomsOfRev zset
 turned-zooms calls zset =
@@ -90,28 +92,34 @@ unfolding zset2zvec
 zooms-as-rust calls zset = pick (hasBit zset turnBit) refl
   where
     pick : (b : Bool) → hasBit zset turnBit ≡ b → zset2zvec (suc (suc calls)) zset ≡ zoomsOf zset
-    pick true e = rw (masked-is zset 31, e) (turned-zooms calls zset ∙ sym (zooms-turned zset e))
+    pick true e = rw (masked-is zset 31 (omega arith), e) (turned-zooms calls zset ∙ sym (zooms-turned zset e))
     pick false e = straight (suc calls) zset e ∙ sym (zooms-straight zset e)
 
 -- ---- the set of a list
+
+pub none-deeper : (l : List ℕ) → ((z : ℕ) → List·Memᴰ z l → z ≤ 30) → anyDeeper l ≡ false
+unfolding anyDeeper
+none-deeper [] h = refl
+none-deeper (z ∷ l) h = rw (le-ltb lastZoom z (h z (List·Memᴰ·head refl)), none-deeper l (λ a m. h a (List·Memᴰ·tail m)))
 
 -- whether a zoom of the list has bit i
 hit : (ℕ → ℕ) → List ℕ → ℕ → Bool
 hit place [] i = false
 hit place (z ∷ l) i = eqb i (place z) || hit place l i
 
-fold-hits : (place : ℕ → ℕ) (n : ℕ) → ((z : ℕ) → z ≤ lastZoom → place z < n) → (l : List ℕ) → anyDeeper l ≡ false → (has : ℕ → Bool)
+fold-hits : (place : ℕ → ℕ) (n : ℕ) → n ≤ 32 → ((z : ℕ) → z ≤ lastZoom → place z < n) → (l : List ℕ) → anyDeeper l ≡ false → (has : ℕ → Bool)
     → fold place (setOf has n) l ≡ setOf (λ i. has i || hit place l i) n
 unfolding fold hit anyDeeper
-fold-hits place n room [] e has = set-same has (λ i. has i || false) n (λ i l. sym (or-false (has i)))
-fold-hits place n room (z ∷ l) e has =
+fold-hits place n w room [] e has = set-same has (λ i. has i || false) n (λ i l. sym (or-false (has i)))
+fold-hits place n w room (z ∷ l) e has =
     let d = or-none (ltb lastZoom z) (anyDeeper l) e in
-    rw (set-with has (place z) n (room z (ltb-false lastZoom z (d .0))))
-    (fold-hits place n room l (d .1) (λ i. has i || eqb i (place z))
+    let h = room z (ltb-false lastZoom z (d .0)) in
+    rw (pow-within (place z) 32 (omega arith), set-with has (place z) n h)
+    (fold-hits place n w room l (d .1) (λ i. has i || eqb i (place z))
     ∙ set-same (λ i. (has i || eqb i (place z)) || hit place l i) (λ i. has i || (eqb i (place z) || hit place l i)) n (λ i k. or-assoc (has i) (eqb i (place z)) (hit place l i)))
 
-fold-from-none : (place : ℕ → ℕ) (n : ℕ) → ((z : ℕ) → z ≤ lastZoom → place z < n) → (l : List ℕ) → anyDeeper l ≡ false → fold place 0 l ≡ setOf (hit place l) n
-fold-from-none place n room l e = ap (λ (acc : ℕ). fold place acc l) (sym (set-none (λ i. false) n (λ i k. refl))) ∙ fold-hits place n room l e (λ i. false)
+fold-from-none : (place : ℕ → ℕ) (n : ℕ) → n ≤ 32 → ((z : ℕ) → z ≤ lastZoom → place z < n) → (l : List ℕ) → anyDeeper l ≡ false → fold place 0 l ≡ setOf (hit place l) n
+fold-from-none place n w room l e = ap (λ (acc : ℕ). fold place acc l) (sym (set-none (λ i. false) n (λ i k. refl))) ∙ fold-hits place n w room l e (λ i. false)
 
 hit-listed : (l : List ℕ) (i : ℕ) → hit (λ z. z) l i ≡ listed l i
 unfolding hit listed
@@ -120,7 +128,7 @@ hit-listed (z ∷ l) i = rw (hit-listed l i)
 
 pub set-as-rust : (zvec : List ℕ) → anyDeeper zvec ≡ false → zvec2zset zvec ≡ setOfZooms zvec
 set-as-rust zvec e =
-    fold-from-none (λ z. z) (suc lastZoom) (λ z h. omega arith) zvec e
+    fold-from-none (λ z. z) (suc lastZoom) (omega arith) (λ z h. omega arith) zvec e
     ∙ set-same (hit (λ z. z) zvec) (listed zvec) (suc lastZoom) (λ i k. hit-listed zvec i)
 
 -- i is 31 - z just if 31 - i is z
@@ -140,7 +148,7 @@ hit-mirrored (z ∷ l) i e h =
 
 pub set-rev-as-rust : (zvec : List ℕ) → anyDeeper zvec ≡ false → zvec2zsetRev zvec ≡ setOfZoomsRev zvec
 set-rev-as-rust zvec e =
-    fold-from-none (λ z. 31 - z) (suc turnBit) (λ z h. omega arith) zvec e
+    fold-from-none (λ z. 31 - z) (suc turnBit) (omega arith) (λ z h. omega arith) zvec e
     ∙ set-same (hit (λ z. 31 - z) zvec) (λ i. listed zvec (turnBit - i)) (suc turnBit) (λ i k. hit-mirrored zvec i e (omega arith))
 
 -- ---- the set of a range
@@ -236,7 +244,7 @@ next zset i w k = pick (inRun zset i) refl (inRun zset (suc i)) refl
 -- the zooms that runs are made of are those from 1 to 29
 looked-at : (zset i : ℕ) → suc i ≤ 29 → masked zset (suc i) ≡ inRun zset (suc i)
 unfolding inRun firstRun lastRun
-looked-at zset i h = masked-is zset (suc i) ∙ rw (le-leb 1 (suc i) (omega arith), le-leb (suc i) 29 h)
+looked-at zset i h = masked-is zset (suc i) (omega arith) ∙ rw (le-leb 1 (suc i) (omega arith), le-leb (suc i) 29 h)
 
 before-all : (zset : ℕ) → inRun zset 0 ≡ false
 unfolding firstRun

@@ -2,20 +2,23 @@
 -- and the Rust's two turned readings do not undo each other. Zooms has the definitions, Rust the Rust's functions on values.
 use mathlib.Core.Path.{_≡_, refl, sym, _∙_}
 use mathlib.Core.Bool.{false, cond, _&&_, or-false}
-use mathlib.Core.List.{List, [], _∷_}
+use mathlib.Core.List.{List, [], _∷_, List·Memᴰ}
 use Prim.Native.Nat.{ℕ, suc, _+_, _-_, _^_, _≤_, _<_}
 use native.Mathlib.Omega.{arith}
 use lib.Dec.{eqb}
 use lib.ListN.{length, getD}
 use lib.Bits.{bitAnd}
-use Rattle.zoom.specs.AsRust.{lowest, highest, mirror, zooms-as-rust, turned-zooms, set-as-rust, set-rev-as-rust, range-as-rust, runs-as-rust}
+use borrow.Author.Tests.{le-ltb}
+use Rattle.bits.specs.Powers.{pow-within}
+use Rattle.zoom.specs.AsRust.{lowest, highest, mirror, zooms-as-rust, turned-zooms, none-deeper, set-as-rust, set-rev-as-rust, range-as-rust, runs-as-rust}
 use Rattle.zoom.specs.Bits.{hasBit, those, setOf, between}
 use Rattle.zoom.specs.Cover.{fromTo, spread, runs-cover}
 use Rattle.zoom.specs.Laws.{set-of-one, set-of-span, set-same, bit-and}
 use Rattle.zoom.specs.Listing.{those-rising, set-back, list-back, rev-lower}
-use Rattle.zoom.specs.Rust.{zset2zvec, zset2zvecRev, zvec2zset, zvec2zsetRev, zoomRanges}
+use Rattle.zoom.specs.Rust.{zoomMaxXY, mask, zset2zvec, zset2zvecRev, zvec2zset, zvec2zsetRev, bitandZoom, all, fromMax, fromMin, default, zoomRanges}
 use Rattle.zoom.specs.Runs.{open-run, run-count}
-use Rattle.zoom.specs.Zooms.{lastZoom, turnBit, zoomsOf, zoomsOfRev, listed, anyDeeper, setOfZooms, setOfZoomsRev, inRun, runStarts, runEnds, runLows, runHighs}
+use Rattle.zoom.specs.Zooms.{lastZoom, turnBit, zoomsOf, zoomsOfRev, listed, anyDeeper, setOfZooms, setOfZoomsRev}
+use Rattle.zoom.specs.Zooms.{zoomBit, zoomBitRev, andZoom, rangeOf, inRun, runStarts, runEnds, runLows, runHighs}
 
 -- ---- there and back
 
@@ -41,15 +44,37 @@ rust-zset2zvec calls zset = zooms-as-rust calls zset
 pub rust-zset2zvec-rev : (calls zset : ℕ) → zset2zvecRev (suc calls) zset ≡ zoomsOfRev zset
 rust-zset2zvec-rev calls zset = turned-zooms calls zset
 
-pub rust-zvec2zset : (zooms : List ℕ) → anyDeeper zooms ≡ false → zvec2zset zooms ≡ setOfZooms zooms
-rust-zvec2zset zooms e = set-as-rust zooms e
+-- "`zvec2zset` takes zooms to 30"
+pub rust-zvec2zset : (zooms : List ℕ) → ((z : ℕ) → List·Memᴰ z zooms → z ≤ 30) → zvec2zset zooms ≡ setOfZooms zooms
+rust-zvec2zset zooms h = set-as-rust zooms (none-deeper zooms h)
 
-pub rust-zvec2zset-rev : (zooms : List ℕ) → anyDeeper zooms ≡ false → zvec2zsetRev zooms ≡ setOfZoomsRev zooms
-rust-zvec2zset-rev zooms e = set-rev-as-rust zooms e
+pub rust-zvec2zset-rev : (zooms : List ℕ) → ((z : ℕ) → List·Memᴰ z zooms → z ≤ 30) → zvec2zsetRev zooms ≡ setOfZoomsRev zooms
+rust-zvec2zset-rev zooms h = set-rev-as-rust zooms (none-deeper zooms h)
 
 -- the set of a range is the set of the list from its lowest to its highest zoom
-pub rust-zoom-set : (low high : ℕ) → high ≤ lastZoom → zvec2zset (fromTo low high) ≡ setOf (between low high) (suc lastZoom)
+pub rust-zoom-set : (low high : ℕ) → high ≤ 30 → zvec2zset (fromTo low high) ≡ setOf (between low high) (suc lastZoom)
 rust-zoom-set low high h = range-as-rust low high h
+
+-- a single zoom: its set, its number beside the lists of `zvec2zset_rev`, and a set `&` it
+pub rust-from-zoom : (zoom : ℕ) → zoom ≤ 30 → zoomBit zoom ≡ record { number = 0; value = mask zoom }
+rust-from-zoom zoom h = rw (le-ltb lastZoom zoom h, pow-within zoom 32 (omega arith))
+
+pub rust-zoom-bit-rev : (zoom : ℕ) → zoom ≤ 30 → zoomBitRev zoom ≡ record { number = 0; value = mask (31 - zoom) }
+rust-zoom-bit-rev zoom h = rw (le-ltb lastZoom zoom h, pow-within (31 - zoom) 32 (omega arith))
+
+pub rust-and-zoom : (zset zoom : ℕ) → zoom ≤ 30 → andZoom zset zoom ≡ record { number = 0; value = bitandZoom zset zoom }
+rust-and-zoom zset zoom h = rw (le-ltb lastZoom zoom h, pow-within (31 - zoom) 32 (omega arith))
+
+-- all zooms, and the ranges that have one end or none named
+pub rust-all : all ≡ 2 ^ suc lastZoom - 1
+rust-all = refl
+
+pub rust-ranges : (n : ℕ) → (fromMax n ≡ rangeOf 0 n) × (fromMin n ≡ rangeOf n lastZoom) × (default ≡ rangeOf 0 lastZoom)
+rust-ranges n = (refl, refl, refl)
+
+-- the last column and row of a zoom of 0 to 29
+pub rust-zoom-max-xy : (zoom : ℕ) → zoom ≤ 29 → zoomMaxXY zoom ≡ 2 ^ zoom - 1
+rust-zoom-max-xy zoom h = rw (pow-within zoom 32 (omega arith))
 
 -- the loop's ranges are the runs, in their order
 pub rust-zoom-ranges : (zset : ℕ) → (lowest (zoomRanges zset) ≡ runLows zset) × (highest (zoomRanges zset) ≡ runHighs zset)
