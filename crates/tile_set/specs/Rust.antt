@@ -1,15 +1,17 @@
 -- The Rust's `merge`, `simplify_v1` and `simplify` (merge.rs) as functions on values. A hash set is a test of tiles. A loop over a hash set or
--- a hash map, whose order is not fixed, walks a list, and `RustTheorems` speaks of every list that the loop can follow.
+-- a hash map, whose order is not fixed, walks a list, and `RustTheorems` speaks of every list that the loop can follow. Columns and rows
+-- have 32 bits and zooms 8: `parent` halves, and takes 1 from a zoom that is not 0, which stays in them; `children1` is computed in them.
 use mathlib.Core.Path.{_≡_}
 use mathlib.Core.Logic.{_↔_}
 use mathlib.Core.Bool.{Bool, true, false, cond, not, _&&_, _||_}
 use mathlib.Core.List.{List, [], _∷_, foldl, List·Memᴰ}
-use Prim.Native.Nat.{ℕ, zero, suc, _-_, _≤_}
+use Prim.Native.Nat.{ℕ, zero, suc, _+_, _-_, _*_, _%_, _^_, _≤_}
 use lib.Dec.{eqb, leb, ltb}
 use lib.ListN.{length}
+use Rattle.tile.specs.OnMap.{tileAt}
 use Rattle.tile.specs.declared.Tile.{Tile}
 use Rattle.tile_set.specs.Merged.{Within}
-use Rattle.tile_set.specs.Set.{anyBelow, ancestor, parentTile, child, whole}
+use Rattle.tile_set.specs.Set.{anyBelow, ancestor, parentTile}
 
 abbrev pub sameTile : Tile → Tile → Bool
 sameTile s t = eqb (s .x) (t .x) && (eqb (s .y) (t .y) && eqb (s .z) (t .z))
@@ -60,7 +62,8 @@ rustMerge m tiles supertiles =
     let s = rustFiled m tiles in
     foldl (mergeGroup m (s .upwards)) (record { current = s .current; changed = false }) supertiles
 
--- the first loop of `simplify_v1`; the i of its inner loop run from z - 1 down to m, and `parent` of i is the ancestor of zoom z - 1 - i
+-- the first loop of `simplify_v1`; the i of its inner loop run from z - 1 down to m, and `parent` of i, which the crate `fns` holds to the
+-- Rust, is the ancestor of zoom z - 1 - i
 abbrev pub keepRoot : ℕ → (Tile → Bool) → Tile → Tile → Bool
 keepRoot m roots t =
     cond (leb (t .z) m) (insert t roots)
@@ -85,20 +88,37 @@ rustWhile (suc turns) m o roots =
 abbrev pub rustSimplifyV1 : ℕ → ℕ → Orders → List Tile → Merging
 rustSimplifyV1 turns m o tiles = rustWhile turns m o (rustRoots m tiles)
 
--- `iter_parents` gives the ancestors from zoom z - 1 up to the root
+-- `iter_parents`, which is one `parent` after the other, gives the ancestors from zoom z - 1 up to the root
 abbrev pub hasTileOrParent : (Tile → Bool) → Tile → Bool
 hasTileOrParent coverage t = coverage t || anyBelow (t .z) (λ s. coverage (ancestor t s))
 
-abbrev pub children1 : Tile → List Tile
-children1 p = child p 0 0 ∷ child p 1 0 ∷ child p 0 1 ∷ child p 1 1 ∷ []
+-- `x * 2`, `x * 2 + 1` and `z + 1`
+abbrev pub even : ℕ → ℕ
+even n = n * 2 % 2 ^ 32
 
--- `attempt_merge` from the ancestor of zoom n - 1 on, with n the second argument; `whole`: all of its `children1` are there
+abbrev pub odd : ℕ → ℕ
+odd n = (n * 2 % 2 ^ 32 + 1) % 2 ^ 32
+
+abbrev pub deeper : ℕ → ℕ
+deeper z = (z + 1) % 2 ^ 8
+
+abbrev pub children1 : Tile → List Tile
+children1 p =
+    tileAt (even (p .x)) (even (p .y)) (deeper (p .z)) ∷ tileAt (odd (p .x)) (even (p .y)) (deeper (p .z))
+    ∷ tileAt (even (p .x)) (odd (p .y)) (deeper (p .z)) ∷ tileAt (odd (p .x)) (odd (p .y)) (deeper (p .z)) ∷ []
+
+-- `siblings.iter().all(..)`
+unfoldable pub containsAll : (Tile → Bool) → List Tile → Bool
+containsAll coverage [] = true
+containsAll coverage (t ∷ ts) = coverage t && containsAll coverage ts
+
+-- `attempt_merge` from the ancestor of zoom n - 1 on, with n the second argument
 unfoldable pub attemptMerge : ℕ → ℕ → Tile → (Tile → Bool) → Tile → Bool
 attemptMerge m zero t coverage = coverage
 attemptMerge m (suc s) t coverage =
     let p = ancestor t s in
     let more = attemptMerge m s t (insert p (removeAll (children1 p) coverage)) in
-    cond (ltb (p .z) m) coverage (cond (whole coverage p) more coverage)
+    cond (ltb (p .z) m) coverage (cond (containsAll coverage (children1 p)) more coverage)
 
 abbrev pub put : ℕ → (Tile → Bool) → Tile → Tile → Bool
 put m coverage t = cond (hasTileOrParent coverage t) coverage (attemptMerge m (t .z) t (insert t coverage))

@@ -3,17 +3,18 @@ use mathlib.Core.Path.{_≡_, refl, sym, ap, _∙_, subst}
 use mathlib.Core.Logic.{_⊎_, inl, inr, ⊎-elim}
 use mathlib.Core.Bool.{Bool, true, false, not, _&&_, true≢false, and-eq-true-iff, or-true}
 use mathlib.Core.List.{List, [], _∷_, foldl, List·Memᴰ, List·Memᴰ·head, List·Memᴰ·tail, List·Memᴰ·not-nil, List·Memᴰ·cases-cons, Memᴰ·cast}
-use Prim.Native.Nat.{ℕ, zero, suc, _+_, _*_, _%_, _≤_, _<_}
+use Prim.Native.Nat.{ℕ, zero, suc, _+_, _*_, _%_, _^_, _≤_, _<_}
 use native.Mathlib.Omega.{arith}
 use lib.Dec.{eqb}
 use lib.ListN.{length}
+use lib.Pow.{pow-mono}
 use borrow.Author.Tests.{eqb-true, eq-eqb, not-true}
 use Rattle.tile.specs.Order.{tile-ext}
 use Rattle.tile.specs.declared.Tile.{Tile}
 use Rattle.tile_set.specs.Holds.{child-of-parent}
 use Rattle.tile_set.specs.Merged.{or-cases, is-false}
-use Rattle.tile_set.specs.Rust.{sameTile, insert, remove, extend, removeAll, children1, Once}
-use Rattle.tile_set.specs.Set.{parentTile, child}
+use Rattle.tile_set.specs.Rust.{sameTile, insert, remove, extend, removeAll, children1, containsAll, Once}
+use Rattle.tile_set.specs.Set.{parentTile, child, whole}
 
 pub same-tile : (s t : Tile) → sameTile s t ≡ true → s ≡ t
 same-tile s t e =
@@ -136,8 +137,41 @@ once-shorter (a ∷ l) k o f =
     (λ t i. ⊎-elim (λ e. absurd (o .0 (Memᴰ·cast (sym e) i))) (λ j. j) (w .all t (f t (List·Memᴰ·tail i)))) in
     omega (arith, w .shorter)
 
+-- the four children of a tile, in the order of `children1`
+abbrev pub fourOf : Tile → List Tile
+fourOf p = child p 0 0 ∷ child p 1 0 ∷ child p 0 1 ∷ child p 1 1 ∷ []
+
+-- of a tile of the map above zoom 29 they fit their bits
+pub children1-are-four : (p : Tile) → p .z < 29 → p .x < 2 ^ p .z → p .y < 2 ^ p .z → children1 p ≡ fourOf p
+children1-are-four p h c r =
+    rw (odd-is (p .x) c, odd-is (p .y) r, even-is (p .x) c, even-is (p .y) r, deeper-is)
+  where
+    side : 2 ^ p .z ≤ 2 ^ 28
+    side = pow-mono {j = 28} (omega arith)
+
+    even-is : (n : ℕ) → n < 2 ^ p .z → n * 2 % 2 ^ 32 ≡ 2 * n + 0
+    even-is n l = omega (arith, side)
+
+    odd-is : (n : ℕ) → n < 2 ^ p .z → (n * 2 % 2 ^ 32 + 1) % 2 ^ 32 ≡ 2 * n + 1
+    odd-is n l = omega (arith, side)
+
+    deeper-is : (p .z + 1) % 2 ^ 8 ≡ suc (p .z)
+    deeper-is = omega arith
+
+pub contains-four : (S : Tile → Bool) (p : Tile) → containsAll S (fourOf p) ≡ whole S p
+unfolding containsAll
+contains-four S p = pick (S (child p 0 0)) (S (child p 1 0)) (S (child p 0 1)) (S (child p 1 1))
+  where
+    pick : (a b c d : Bool) → a && (b && (c && (d && true))) ≡ (a && c) && (b && d)
+    pick false b c d = refl
+    pick true true true true = refl
+    pick true true true false = refl
+    pick true true false d = refl
+    pick true false true d = refl
+    pick true false false d = refl
+
 module _ (p : Tile) where
-  in-four : (i j : ℕ) → i < 2 → j < 2 → List·Memᴰ (child p i j) (children1 p)
+  in-four : (i j : ℕ) → i < 2 → j < 2 → List·Memᴰ (child p i j) (fourOf p)
   in-four zero zero a b = List·Memᴰ·head refl
   in-four (suc zero) zero a b = List·Memᴰ·tail (List·Memᴰ·head refl)
   in-four zero (suc zero) a b = List·Memᴰ·tail (List·Memᴰ·tail (List·Memᴰ·head refl))
@@ -146,7 +180,7 @@ module _ (p : Tile) where
   in-four (suc zero) (suc (suc j)) a b = absurd (omega arith)
   in-four (suc (suc i)) j a b = absurd (omega arith)
 
-  pub each-of-four : (P : Tile → Type 0) → ((i j : ℕ) → i < 2 → j < 2 → P (child p i j)) → (t : Tile) → List·Memᴰ t (children1 p) → P t
+  pub each-of-four : (P : Tile → Type 0) → ((i j : ℕ) → i < 2 → j < 2 → P (child p i j)) → (t : Tile) → List·Memᴰ t (fourOf p) → P t
   each-of-four P f t m =
       first (f 0 0 (omega arith) (omega arith)) (first (f 1 0 (omega arith) (omega arith)) (first (f 0 1 (omega arith) (omega arith))
       (first (f 1 1 (omega arith) (omega arith)) (λ k. absurd (List·Memᴰ·not-nil k))))) m
@@ -154,7 +188,7 @@ module _ (p : Tile) where
       first : {a : Tile} {k : List Tile} → P a → (List·Memᴰ t k → P t) → List·Memᴰ t (a ∷ k) → P t
       first x rest m = ⊎-elim (λ e. subst P (sym e) x) rest (List·Memᴰ·cases-cons m)
 
-  pub child-in-four : (t : Tile) → 0 < t .z → parentTile t ≡ p → List·Memᴰ t (children1 p)
+  pub child-in-four : (t : Tile) → 0 < t .z → parentTile t ≡ p → List·Memᴰ t (fourOf p)
   child-in-four t h e =
       let c : t ≡ child p (t .x % 2) (t .y % 2) = sym (child-of-parent t h) ∙ ap (λ (q : Tile). child q (t .x % 2) (t .y % 2)) e in
       Memᴰ·cast c (in-four (t .x % 2) (t .y % 2) (omega arith) (omega arith))
@@ -165,7 +199,7 @@ module _ (p : Tile) where
   other-row : (i j k n : ℕ) → (j ≡ n → ⊥) → child p i j ≡ child p k n → ⊥
   other-row i j k n d e = let c : 2 * p .y + j ≡ 2 * p .y + n = ap (λ (t : Tile). t .y) e in d (omega arith)
 
-  once-four : Once (children1 p)
+  once-four : Once (fourOf p)
   once-four = (
     not-in (other-column 0 0 1 0 (λ e. omega arith))
         (not-in (other-row 0 0 0 1 (λ e. omega arith)) (not-in (other-row 0 0 1 1 (λ e. omega arith)) List·Memᴰ·not-nil)),
@@ -177,7 +211,7 @@ module _ (p : Tile) where
 
 -- a list that has children of p, each once, has four entries exactly where it has all four
 module _ (p : Tile) (l : List Tile) (once : Once l) (children : (t : Tile) → List·Memᴰ t l → (0 < t .z) × (parentTile t ≡ p)) where
-  all-in-four : (t : Tile) → List·Memᴰ t l → List·Memᴰ t (children1 p)
+  all-in-four : (t : Tile) → List·Memᴰ t l → List·Memᴰ t (fourOf p)
   all-in-four t i = let c = children t i in child-in-four p t (c .0) (c .1)
 
   pub four-all : length l ≡ 4 → (i j : ℕ) → i < 2 → j < 2 → List·Memᴰ (child p i j) l
@@ -186,7 +220,7 @@ module _ (p : Tile) (l : List Tile) (once : Once l) (children : (t : Tile) → L
       pick : Dec (List·Memᴰ (child p i j) l) → List·Memᴰ (child p i j) l
       pick (yes k) = k
       pick (no n) =
-          let w = without (child p i j) (children1 p) (in-four p i j a b) in
+          let w = without (child p i j) (fourOf p) (in-four p i j a b) in
           let h : length l ≤ length (w .others) = once-shorter l (w .others) once
           (λ t k. ⊎-elim (λ s. absurd (n (Memᴰ·cast (sym s) k))) (λ o. o) (w .all t (all-in-four t k))) in
           absurd (omega (arith, w .shorter))
@@ -195,6 +229,6 @@ module _ (p : Tile) (l : List Tile) (once : Once l) (children : (t : Tile) → L
   all-four f =
       omega (
         arith,
-        once-shorter l (children1 p) once all-in-four,
-        once-shorter (children1 p) l (once-four p) (each-of-four p (λ (t : Tile). List·Memᴰ t l) f),
+        once-shorter l (fourOf p) once all-in-four,
+        once-shorter (fourOf p) l (once-four p) (each-of-four p (λ (t : Tile). List·Memᴰ t l) f),
       )

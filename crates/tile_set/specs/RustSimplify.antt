@@ -9,12 +9,12 @@ use native.Mathlib.Omega.{arith}
 use lib.Dec.{ltb}
 use borrow.Author.Tests.{ltb-true, ltb-false}
 use Rattle.tile.specs.declared.Tile.{Tile}
-use Rattle.tile_set.specs.Holds.{Holds, holds-refl, holds-trans, holds-level, child-held, ancestor-holds, holder-is-ancestor}
-use Rattle.tile_set.specs.Merged.{Apart, or-cases, is-false, bool-ext, whole-all, joins-when, joined-when, joined-four, joined-joins}
+use Rattle.tile_set.specs.Holds.{Holds, holds-refl, holds-trans, holds-level, child-held, ancestor-holds, holder-is-ancestor, Valid, valid-holder}
+use Rattle.tile_set.specs.Merged.{Within, Apart, or-cases, is-false, bool-ext, whole-all, joins-when, joined-when, joined-four, joined-joins}
 use Rattle.tile_set.specs.Merged.{merged-cases, merged-kept, merged-joined, merged-covers, merged-apart}
-use Rattle.tile_set.specs.Rust.{empty, insert, removeAll, children1, hasTileOrParent, attemptMerge, put, rustSimplify, ByZoom, Walk}
+use Rattle.tile_set.specs.Rust.{empty, insert, removeAll, hasTileOrParent, containsAll, attemptMerge, put, rustSimplify, ByZoom, Walk}
 use Rattle.tile_set.specs.RustSets.{insert-cases, insert-here, insert-old, remove-all-of, remove-all-in, loop-keeps, after-turn, at-end}
-use Rattle.tile_set.specs.RustSets.{same-zoom, each-of-four, child-in-four}
+use Rattle.tile_set.specs.RustSets.{same-zoom, fourOf, children1-are-four, contains-four, each-of-four, child-in-four}
 use Rattle.tile_set.specs.Set.{anyBelow, ancestor, parentTile, child, whole, joins, joined, merged}
 use Rattle.tile_set.specs.Simplified.{Built, listed, Simplest, merged-built}
 use Rattle.tile_set.specs.Uncovered.{any-below-of, any-below-in}
@@ -47,41 +47,41 @@ each-or {G} P f =
 
 -- where p's four children are the only four together, to put p in their place is a pass of merging
 one-family-merged : (m : ℕ) (p : Tile) (C : Tile → Bool) → m ≤ p .z → whole C p ≡ true → ((q : Tile) → m ≤ q .z → whole C q ≡ true → q ≡ p)
-    → insert p (removeAll (children1 p) C) ≡ merged m C
-one-family-merged m p C l w only = fun-ext (λ t. bool-ext (insert p (removeAll (children1 p) C) t) (merged m C t) (to t) (from t))
+    → insert p (removeAll (fourOf p) C) ≡ merged m C
+one-family-merged m p C l w only = fun-ext (λ t. bool-ext (insert p (removeAll (fourOf p) C) t) (merged m C t) (to t) (from t))
   where
     is-joined : joined m C p ≡ true
     is-joined = joined-when m C p .1 (l, w)
 
-    to : (t : Tile) → insert p (removeAll (children1 p) C) t ≡ true → merged m C t ≡ true
-    to t e = ⊎-elim (λ q. merged-joined m C t (ap (joined m C) q ∙ is-joined)) other (insert-cases p (removeAll (children1 p) C) t e)
+    to : (t : Tile) → insert p (removeAll (fourOf p) C) t ≡ true → merged m C t ≡ true
+    to t e = ⊎-elim (λ q. merged-joined m C t (ap (joined m C) q ∙ is-joined)) other (insert-cases p (removeAll (fourOf p) C) t e)
       where
-        other : removeAll (children1 p) C t ≡ true → merged m C t ≡ true
+        other : removeAll (fourOf p) C t ≡ true → merged m C t ≡ true
         other k =
-            let r = remove-all-of (children1 p) C t k in
+            let r = remove-all-of (fourOf p) C t k in
             merged-kept m C t (r .0) (is-false (joins m C t) (λ j.
             let g = joins-when m C t .0 j in
             let f : parentTile t ≡ p = only (parentTile t) (omega (arith, g .0)) (g .1) in
             r .1 (child-in-four p t (omega (arith, g .0)) f)))
 
-    from : (t : Tile) → merged m C t ≡ true → insert p (removeAll (children1 p) C) t ≡ true
+    from : (t : Tile) → merged m C t ≡ true → insert p (removeAll (fourOf p) C) t ≡ true
     from t e = ⊎-elim stays new (merged-cases m C t e)
       where
-        stays : (C t ≡ true) × (joins m C t ≡ false) → insert p (removeAll (children1 p) C) t ≡ true
-        stays k = insert-old p (removeAll (children1 p) C) t (remove-all-in (children1 p) C t (k .0) (λ i. true≢false (sym (goes i) ∙ k .1)))
+        stays : (C t ≡ true) × (joins m C t ≡ false) → insert p (removeAll (fourOf p) C) t ≡ true
+        stays k = insert-old p (removeAll (fourOf p) C) t (remove-all-in (fourOf p) C t (k .0) (λ i. true≢false (sym (goes i) ∙ k .1)))
           where
-            goes : List·Memᴰ t (children1 p) → joins m C t ≡ true
+            goes : List·Memᴰ t (fourOf p) → joins m C t ≡ true
             goes = each-of-four p (λ (u : Tile). joins m C u ≡ true) (λ i j a b. joined-joins m C p i j a b is-joined) t
 
-        new : joined m C t ≡ true → insert p (removeAll (children1 p) C) t ≡ true
+        new : joined m C t ≡ true → insert p (removeAll (fourOf p) C) t ≡ true
         new k =
             let g = joined-when m C t .0 k in
-            insert-here p (removeAll (children1 p) C) t (only t (g .0) (g .1))
+            insert-here p (removeAll (fourOf p) C) t (only t (g .0) (g .1))
 
 abbrev Held : (Tile → Bool) → Tile → Type 0
 Held C t = (r : Tile) × (C r ≡ true) × Holds r t
 
-module _ (m : ℕ) (S : Tile → Bool) where
+module _ (m : ℕ) (S : Tile → Bool) (small : Within 29 S) where
   -- the coverage C, with `rest` still to come; four siblings of a zoom > m stand together only under a tile that is `pending`
   record Covering (pending : Tile → Type 0) (C : Tile → Bool) (rest : List Tile) : Type 0 where
     built : (t : Tile) → C t ≡ true → Built m S t
@@ -142,14 +142,22 @@ module _ (m : ℕ) (S : Tile → Bool) where
               let k : joined m C p ≡ true = joined-when m C p .1 (l, whole-all C p .1 (λ i j a b. f i j a b .0)) in
               absurd (true≢false (sym (joined-joins m C p 0 0 (omega arith) (omega arith) k) ∙ f 0 0 (omega arith) (omega arith) .1))
 
-  attempt-keeps : (n : ℕ) (t : Tile) (C : Tile → Bool) (rest : List Tile) → Covering (next-pending t n) C rest
+  attempt-keeps : (n : ℕ) (t : Tile) (C : Tile → Bool) (rest : List Tile) → Valid 29 t → n ≤ t .z → Covering (next-pending t n) C rest
       → Covering none-pending (attemptMerge m n t C) rest
   unfolding attemptMerge
-  attempt-keeps zero t C rest h = settled (next-pending t 0) h (λ p a w o. omega (arith, o .0))
-  attempt-keeps (suc s) t C rest h =
+  attempt-keeps zero t C rest v l h = settled (next-pending t 0) h (λ p a w o. omega (arith, o .0))
+  attempt-keeps (suc s) t C rest v l h =
       let p = ancestor t s in
-      pick (ltb s m) refl (whole C p) refl (attempt-keeps s t (insert p (removeAll (children1 p) C)) rest)
+      let u = valid-holder (ancestor-holds t s (omega arith)) v in
+      subst attempted (sym (children1-are-four p (omega (arith, v .zoom)) (u .column) (u .row))) (rw (contains-four C p)
+      (pick (ltb s m) refl (whole C p) refl (attempt-keeps s t (insert p (removeAll (fourOf p) C)) rest v (omega arith))))
     where
+      -- what is to be shown, of the children as they are computed
+      attempted : List Tile → Type 0
+      attempted four =
+          let p = ancestor t s in
+          Covering none-pending (cond (ltb s m) C (cond (containsAll C four) (attemptMerge m s t (insert p (removeAll four C))) C)) rest
+
       only : (q : Tile) → m ≤ q .z → whole C q ≡ true → q ≡ ancestor t s
       only q a w =
           let f = h .families q a w in
@@ -157,7 +165,7 @@ module _ (m : ℕ) (S : Tile → Bool) where
           holder-is-ancestor (f .1) ∙ ap (ancestor t) e
 
       next : Tile → Bool
-      next = insert (ancestor t s) (removeAll (children1 (ancestor t s)) C)
+      next = insert (ancestor t s) (removeAll (fourOf (ancestor t s)) C)
 
       pick : (b : Bool) → ltb s m ≡ b → (c : Bool) → whole C (ancestor t s) ≡ c
           → (Covering (next-pending t s) next rest → Covering none-pending (attemptMerge m s t next) rest)
@@ -225,7 +233,8 @@ module _ (m : ℕ) (S : Tile → Bool) where
       pick : (b : Bool) → hasTileOrParent C t ≡ b → Covering none-pending (cond b C (attemptMerge m (t .z) t (insert t C))) rest
       pick true e = held-keeps C t rest h (held e)
       pick false e =
-          attempt-keeps (t .z) t (insert t C) rest (insert-keeps C t rest h (λ r c g. true≢false (sym (holder-found r c g) ∙ e)))
+          attempt-keeps (t .z) t (insert t C) rest (small t (h .rest-of t (List·Memᴰ·head refl))) (omega arith)
+          (insert-keeps C t rest h (λ r c g. true≢false (sym (holder-found r c g) ∙ e)))
 
   pub rust-simplest : (tiles : List Tile) → Walk S tiles → ByZoom tiles → Simplest m S (rustSimplify m tiles)
   unfolding rustSimplify

@@ -1,4 +1,5 @@
--- "For tiles of zoom 0 to 29 .. the result equals the Rust's", for zooms 0 to D: in whatever order the Rust's loops go.
+-- The Rust's `merge`, `simplify_v1` and `simplify` give the sets of the definitions, in whatever order its loops go. D is the map's deepest
+-- zoom. The first two hold of all tiles that the Rust has; `simplify` computes children and is held to tiles of zoom 0 to 29.
 use mathlib.Core.Path.{_≡_, refl, ap, fun-ext, subst}
 use mathlib.Core.Logic.{_↔_}
 use mathlib.Core.Bool.{Bool, true, false}
@@ -40,9 +41,9 @@ the-rusts-simplify-v1 {D} m S w tiles walk order o fair (suc n) l =
     rw roots (λ t. ap (λ (R : Tile → Bool). R t) (e .0), e .1)
 
 -- `simplify`
-pub the-rusts-simplify : {D : ℕ} (m : ℕ) (S : Tile → Bool) → Within D S → (tiles : List Tile) → Walk S tiles → ByZoom tiles
+pub the-rusts-simplify : {D : ℕ} (m : ℕ) (S : Tile → Bool) → Within D S → Within 29 S → (tiles : List Tile) → Walk S tiles → ByZoom tiles
     → (t : Tile) → rustSimplify m tiles t ≡ simplified D m S t
-the-rusts-simplify m S w tiles walk order = simplified-is w (rust-simplest m S tiles walk order)
+the-rusts-simplify m S w small tiles walk order = simplified-is w (rust-simplest m S small tiles walk order)
 
 -- Orders as these theorems ask for exist: that of `inOrder` is one.
 ordered-once : (l : List Tile) → Ordered l → Once l
