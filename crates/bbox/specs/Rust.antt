@@ -1,4 +1,5 @@
 -- What the Rust's text does, test by test in its order; `if t { return true; } false` is t. specs/Theorems.antt has that these are the definitions.
+-- `new`, `is_antimeridian`, `crosses_antimeridian` and `bboxes` are not here: `box`, `crosses` and `parts` are their text.
 use mathlib.Core.Bool.{Bool, false, _&&_, _||_, cond}
 use Rattle.bbox.specs.declared.BBox.{BBox}
 use Rattle.bbox.specs.declared.LngLat.{LngLat}

@@ -18,19 +18,19 @@ use Rattle.bbox.specs.Rust as rust
 -- ---- The Rust
 
 -- The Rust's tests, in its order, are the definitions.
-pub contains_lnglat-is : (b : BBox) (p : LngLat) → rust.contains_lnglat b p ≡ containsPoint b p
-contains_lnglat-is b p =
+pub rust-contains-lnglat : (b : BBox) (p : LngLat) → rust.contains_lnglat b p ≡ containsPoint b p
+rust-contains-lnglat b p =
     laws.point-tests (crosses b) (atMost (b .west) (p .lng)) (atMost (p .lng) (b .east)) (atMost (b .south) (p .lat)) (atMost (p .lat) (b .north))
 
-pub contains_bbox-is : (a b : BBox) → rust.contains_bbox a b ≡ containsBox a b
-contains_bbox-is a b =
+pub rust-contains-bbox : (a b : BBox) → rust.contains_bbox a b ≡ containsBox a b
+rust-contains-bbox a b =
     laws.box-tests (crosses a) (crosses b) (atMost (a .west) (b .west)) (atMost (b .east) (a .east)) (atMost (a .south) (b .south)) (atMost (b .north) (a .north))
 
-pub is_within-is : (a b : BBox) → rust.is_within a b ≡ within a b
-is_within-is a b = rw laws.backward
+pub rust-is-within : (a b : BBox) → rust.is_within a b ≡ within a b
+rust-is-within a b = rw laws.backward
 
-pub intersects-is : (a b : BBox) → rust.intersects a b ≡ meets a b
-intersects-is a b = rw laws.backward
+pub rust-intersects : (a b : BBox) → rust.intersects a b ≡ meets a b
+rust-intersects a b = rw laws.backward
 
 -- ---- NaN
 

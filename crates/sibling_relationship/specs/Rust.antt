@@ -1,4 +1,4 @@
--- What the Rust's `from` does, as a function on values.
+-- What the Rust's `from` does, of a column and a row and of a tile, as a function on values.
 use mathlib.Core.Bool.{Bool, true, false}
 use Prim.Native.Nat.{ℕ, _%_}
 use lib.Dec.{eqb}

@@ -3,7 +3,7 @@ use mathlib.Core.Path.{_≡_, sym, _∙_}
 use mathlib.Core.Bool.{true, false}
 use borrow.Author.Needs.{needs}
 use Rattle.bbox.specs.Box.{crosses}
-use Rattle.bbox.specs.Theorems.{contains_bbox-is}
+use Rattle.bbox.specs.Theorems.{rust-contains-bbox}
 use Rattle.bbox.proofs.BBox.contains_bbox.Statement.{statement}
 use Rattle.bbox.proofs.BBox.contains_bbox.Tie as tie
 
@@ -29,26 +29,26 @@ returns : tie.Need-returns
 returns c =
     let edges = c .before .before .before .before in
     let both = edges .before .before .before .before .before in
-    rw (← contains_bbox-is, self-crosses (both .before .before), other-crosses both, edges .if3 .taken)
+    rw (← rust-contains-bbox, self-crosses (both .before .before), other-crosses both, edges .if3 .taken)
 
 returns-2 : tie.Need-returns-2
 returns-2 c =
     let both = c .before .before .before .before .before in
-    rw (← contains_bbox-is, self-crosses (both .before .before), other-crosses both, c .if3 .left)
+    rw (← rust-contains-bbox, self-crosses (both .before .before), other-crosses both, c .if3 .left)
 
 returns-3 : tie.Need-returns-3
 returns-3 c =
     let edges = c .before .before .before .before in
     let self-alone = edges .before .before .before .before .before in
-    rw (← contains_bbox-is, self-crosses (self-alone .before .before), other-does-not self-alone, edges .if4 .taken)
+    rw (← rust-contains-bbox, self-crosses (self-alone .before .before), other-does-not self-alone, edges .if4 .taken)
 
 returns-4 : tie.Need-returns-4
 returns-4 c =
     let self-alone = c .before .before .before .before .before in
-    rw (← contains_bbox-is, self-crosses (self-alone .before .before), other-does-not self-alone, c .if4 .left)
+    rw (← rust-contains-bbox, self-crosses (self-alone .before .before), other-does-not self-alone, c .if4 .left)
 
 returns-5 : tie.Need-returns-5
-returns-5 c = rw (← contains_bbox-is, self-does-not (c .before .before .before .before .before .before .before .before))
+returns-5 c = rw (← rust-contains-bbox, self-does-not (c .before .before .before .before .before .before .before .before))
 
 pub contains-bbox-spec : {M : Type 1} → statement M
 contains-bbox-spec = tie.close (tie.spec is-antimeridian-requires is-antimeridian-requires-2 returns returns-2 returns-3 returns-4 returns-5)
