@@ -1,8 +1,8 @@
 //! Prints what the Rust does just beyond document 01's domain, for docs/DIFFERENCES.md. Nothing of it goes into the lists.
 use std::fmt::Debug;
 
-use utiles_core::tile_zbox::TileZBox;
-use utiles_core::zoom::{ZoomSet, zoom_max_xy, zset2zvec, zset2zvec_rev, zvec2zset, zvec2zset_rev};
+use utiles_core::tile_zbox::{TileZBox, TileZBoxes};
+use utiles_core::zoom::{ZoomRange, ZoomSet, zoom_max_xy, zset2zvec, zset2zvec_rev, zvec2zset, zvec2zset_rev};
 use utiles_core::*;
 
 use crate::paper::RMID_END;
@@ -110,9 +110,14 @@ fn boxes() {
         whole(16).into_iter().size_hint();
         TileZBox::new(1, 0, 0, 0, 0).length();
         TileZBox::new(1, 0, 0, 0, 0).into_iter().next();
+        TileZBox::new(1, 0, 0, 0, 0);
+        whole(0).contains_tile(&Tile::new_unchecked(1, 0, 0));
+        TileZBox::new(0, 1, 0, 0, 0).contains_tile(&Tile::new_unchecked(1, 0, 0));
+        TileZBoxes::from(vec![whole(0); 33]).length();
         TileZBox::new(0, 1, 0, 1, 0).flipy();
         TileZBox::new(0, 0, 0, 0, 29).zoom_in();
         TileZBox::new(0, 0, 0, 0, 1).zoom_depth(255);
+        TileZBox::from_tiles(&[Tile::new(0, 0, 0); 65_537]);
         TileZBox::from_tiles(&[]);
         TileZBox::from_tiles(&[Tile::new(0, 0, 0), Tile::new(0, 0, 1)]);
     }
@@ -128,10 +133,13 @@ fn zooms() {
         zset2zvec_rev(zvec2zset_rev(&[0]));
         zset2zvec_rev(zvec2zset_rev(&[1]));
         zset2zvec(zvec2zset_rev(&[0, 1]));
+        zvec2zset(&[0; 65_537]);
         zvec2zset(&[31]);
         zvec2zset(&[32]);
         zvec2zset_rev(&[31]);
         zvec2zset_rev(&[32]);
+        ZoomSet::from(31u8);
+        ZoomSet::from(ZoomRange::new(0, 31));
         ZoomSet::new(0b1).zoom_ranges();
         ZoomSet::new(0b11).zoom_ranges();
         ZoomSet::new(0b10111).zoom_ranges();
