@@ -3,6 +3,7 @@ pub mod InOrder
 pub mod Merged
 pub mod Rust
 pub mod RustMerge
+pub mod RustParents
 pub mod RustSets
 pub mod RustSimplify
 pub mod RustSimplifyV1

@@ -1,17 +1,18 @@
 -- The Rust's `merge`, `simplify_v1` and `simplify` (merge.rs) as functions on values. A hash set is a test of tiles. A loop over a hash set or
 -- a hash map, whose order is not fixed, walks a list, and `RustTheorems` speaks of every list that the loop can follow. Columns and rows
--- have 32 bits and zooms 8: `parent` halves, and takes 1 from a zoom that is not 0, which stays in them; `children1` is computed in them.
+-- have 32 bits and zooms 8: `parent` halves and takes 1, which leaves them at zoom 0 alone; `children1` is computed in them.
 use mathlib.Core.Path.{_≡_}
 use mathlib.Core.Logic.{_↔_}
 use mathlib.Core.Bool.{Bool, true, false, cond, not, _&&_, _||_}
 use mathlib.Core.List.{List, [], _∷_, foldl, List·Memᴰ}
-use Prim.Native.Nat.{ℕ, zero, suc, _+_, _-_, _*_, _%_, _^_, _≤_}
+use mathlib.Core.Option.{Option, none, some}
+use Prim.Native.Nat.{ℕ, zero, suc, _+_, _*_, _%_, _^_, _≤_}
 use lib.Dec.{eqb, leb, ltb}
 use lib.ListN.{length}
 use Rattle.tile.specs.OnMap.{tileAt}
 use Rattle.tile.specs.declared.Tile.{Tile}
 use Rattle.tile_set.specs.Merged.{Within}
-use Rattle.tile_set.specs.Set.{anyBelow, ancestor, parentTile}
+use Rattle.tile_set.specs.Set.{anyBelow, parentTile}
 
 abbrev pub sameTile : Tile → Tile → Bool
 sameTile s t = eqb (s .x) (t .x) && (eqb (s .y) (t .y) && eqb (s .z) (t .z))
@@ -31,17 +32,33 @@ extend tiles S = foldl (λ R t. insert t R) S tiles
 abbrev pub removeAll : List Tile → (Tile → Bool) → Tile → Bool
 removeAll tiles S = foldl (λ R t. remove t R) S tiles
 
+-- `parent`: one step up where no extra steps are left, else a call one zoom up with one step fewer; none is the Rust's None, and where
+-- `z - 1` stops
+unfoldable pub parent : Tile → ℕ → Option Tile
+parent t zero = cond (eqb (t .z) 0) none (some (parentTile t))
+parent t (suc n) = cond (eqb (t .z) 0) none (parent (parentTile t) n)
+
+-- what `iter_parents` gives: the parent, and after each tile its parent, in no more calls than a zoom of 8 bits has zooms above it
+unfoldable pub parentsFrom : ℕ → Option Tile → List Tile
+parentsFrom zero current = []
+parentsFrom (suc calls) none = []
+parentsFrom (suc calls) (some t) = t ∷ parentsFrom calls (parent t 0)
+
+abbrev pub iterParents : Tile → List Tile
+iterParents t = parentsFrom 255 (parent t 0)
+
 -- `merge` after its first loop: `upwards_merge`, with no entry where the group is empty, and `current_tileset`
 pub record Filed : Type 0 where
   pub upwards : Tile → List Tile
   pub current : Tile → Bool
 
--- a tile of zoom > m has a parent; it is new in its group, since the loop meets each tile once
+-- a tile goes into its parent's group, in which it is new, since the loop meets each tile once
+abbrev pub fileUnder : Filed → Tile → Option Tile → Filed
+fileUnder s t none = s
+fileUnder s t (some parent) = record { upwards = λ p. cond (sameTile p parent) (t ∷ s .upwards p) (s .upwards p); current = s .current }
+
 abbrev pub file : ℕ → Filed → Tile → Filed
-file m s t =
-    cond (ltb m (t .z))
-    (record { upwards = λ p. cond (sameTile p (parentTile t)) (t ∷ s .upwards p) (s .upwards p); current = s .current })
-    (record { upwards = s .upwards; current = insert t (s .current) })
+file m s t = cond (ltb m (t .z)) (fileUnder s t (parent t 0)) (record { upwards = s .upwards; current = insert t (s .current) })
 
 unfoldable pub rustFiled : ℕ → List Tile → Filed
 rustFiled m tiles = foldl (file m) (record { upwards = λ p. []; current = empty }) tiles
@@ -62,12 +79,15 @@ rustMerge m tiles supertiles =
     let s = rustFiled m tiles in
     foldl (mergeGroup m (s .upwards)) (record { current = s .current; changed = false }) supertiles
 
--- the first loop of `simplify_v1`; the i of its inner loop run from z - 1 down to m, and `parent` of i, which the crate `fns` holds to the
--- Rust, is the ancestor of zoom z - 1 - i
+-- the first loop of `simplify_v1`; the i of its inner loop run from z - 1 down to m
+abbrev pub holdsSome : (Tile → Bool) → Option Tile → Bool
+holdsSome roots none = false
+holdsSome roots (some parent) = roots parent
+
 abbrev pub keepRoot : ℕ → (Tile → Bool) → Tile → Tile → Bool
 keepRoot m roots t =
     cond (leb (t .z) m) (insert t roots)
-    (cond (anyBelow (t .z) (λ i. leb m i && roots (ancestor t (t .z - 1 - i)))) roots (insert t roots))
+    (cond (anyBelow (t .z) (λ i. leb m i && holdsSome roots (parent t i))) roots (insert t roots))
 
 unfoldable pub rustRoots : ℕ → List Tile → Tile → Bool
 rustRoots m tiles = foldl (keepRoot m) empty tiles
@@ -88,9 +108,13 @@ rustWhile (suc turns) m o roots =
 abbrev pub rustSimplifyV1 : ℕ → ℕ → Orders → List Tile → Merging
 rustSimplifyV1 turns m o tiles = rustWhile turns m o (rustRoots m tiles)
 
--- `iter_parents`, which is one `parent` after the other, gives the ancestors from zoom z - 1 up to the root
+-- `.any(..)`
+unfoldable pub containsAny : (Tile → Bool) → List Tile → Bool
+containsAny coverage [] = false
+containsAny coverage (t ∷ ts) = coverage t || containsAny coverage ts
+
 abbrev pub hasTileOrParent : (Tile → Bool) → Tile → Bool
-hasTileOrParent coverage t = coverage t || anyBelow (t .z) (λ s. coverage (ancestor t s))
+hasTileOrParent coverage t = coverage t || containsAny coverage (iterParents t)
 
 -- `x * 2`, `x * 2 + 1` and `z + 1`
 abbrev pub even : ℕ → ℕ
@@ -112,16 +136,15 @@ unfoldable pub containsAll : (Tile → Bool) → List Tile → Bool
 containsAll coverage [] = true
 containsAll coverage (t ∷ ts) = coverage t && containsAll coverage ts
 
--- `attempt_merge` from the ancestor of zoom n - 1 on, with n the second argument
-unfoldable pub attemptMerge : ℕ → ℕ → Tile → (Tile → Bool) → Tile → Bool
-attemptMerge m zero t coverage = coverage
-attemptMerge m (suc s) t coverage =
-    let p = ancestor t s in
-    let more = attemptMerge m s t (insert p (removeAll (children1 p) coverage)) in
+-- `attempt_merge` of the parents that are still to come
+unfoldable pub attemptMerge : ℕ → List Tile → (Tile → Bool) → Tile → Bool
+attemptMerge m [] coverage = coverage
+attemptMerge m (p ∷ parents) coverage =
+    let more = attemptMerge m parents (insert p (removeAll (children1 p) coverage)) in
     cond (ltb (p .z) m) coverage (cond (containsAll coverage (children1 p)) more coverage)
 
 abbrev pub put : ℕ → (Tile → Bool) → Tile → Tile → Bool
-put m coverage t = cond (hasTileOrParent coverage t) coverage (attemptMerge m (t .z) t (insert t coverage))
+put m coverage t = cond (hasTileOrParent coverage t) coverage (attemptMerge m (iterParents t) (insert t coverage))
 
 unfoldable pub rustSimplify : ℕ → List Tile → Tile → Bool
 rustSimplify m tiles = foldl (put m) empty tiles

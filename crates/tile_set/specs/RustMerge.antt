@@ -13,7 +13,8 @@ use Rattle.tile.specs.declared.Tile.{Tile}
 use Rattle.tile_set.specs.Holds.{parent-of-child}
 use Rattle.tile_set.specs.Merged.{is-false, bool-ext, whole-all, joins-when, joined-when, joined-four, joins-joined, joined-joins}
 use Rattle.tile_set.specs.Merged.{merged-cases, merged-kept, merged-joined}
-use Rattle.tile_set.specs.Rust.{sameTile, empty, insert, extend, Filed, file, rustFiled, Merging, mergeGroup, rustMerge, Once, Walk, Keys}
+use Rattle.tile_set.specs.Rust.{sameTile, empty, insert, extend, parent, Filed, fileUnder, file, rustFiled, Merging, mergeGroup, rustMerge, Once, Walk, Keys}
+use Rattle.tile_set.specs.RustParents.{has-parent}
 use Rattle.tile_set.specs.RustSets.{same-tile, tile-same, insert-cases, insert-here, insert-old, extend-old, extend-in, extend-cases}
 use Rattle.tile_set.specs.RustSets.{loop-keeps, after-turn, at-end, same-zoom, four-all, all-four}
 use Rattle.tile_set.specs.Set.{parentTile, child, whole, joins, joined, merged}
@@ -63,9 +64,8 @@ module _ (m : ℕ) (S : Tile → Bool) where
       grown-once p false = h .once p
 
       pick : (b : Bool) → ltb m (t .z) ≡ b
-          → Filing (cond b (record { upwards = λ p. group p (sameTile p (parentTile t)); current = s .current })
-          (record { upwards = s .upwards; current = insert t (s .current) })) rest
-      pick true e = record {
+          → Filing (cond b (fileUnder s t (parent t 0)) (record { upwards = s .upwards; current = insert t (s .current) })) rest
+      pick true e = rw (has-parent t (omega (arith, ltb-true m (t .z) e))) (record {
         grouped = λ p u. under p u (sameTile p (parentTile t)) refl (ltb-true m (t .z) e);
         high = λ u k l. after-turn (grown (parentTile u) u (sameTile (parentTile u) (parentTile t))) (here u) (h .high u k l);
         once = λ p. grown-once p (sameTile p (parentTile t));
@@ -73,7 +73,7 @@ module _ (m : ℕ) (S : Tile → Bool) where
         low = λ u k l. after-turn (λ c. c) (λ q. absurd (omega (arith, ltb-true m (t .z) e, same-zoom q))) (h .low u k l);
         rest-of = λ u i. h .rest-of u (List·Memᴰ·tail i);
         rest-once = h .rest-once .1;
-      }
+      })
       pick false e = record {
         grouped = old-under;
         high = λ u k l. after-turn (λ i. i) (λ q. absurd (omega (arith, ltb-false m (t .z) e, same-zoom q))) (h .high u k l);

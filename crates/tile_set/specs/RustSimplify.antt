@@ -1,7 +1,7 @@
 -- That the Rust's `simplify`, which puts the tiles one by one in order of zoom and merges after each, comes to the one simplest set.
 use mathlib.Core.Path.{_≡_, refl, sym, ap, _∙_, fun-ext, subst}
 use mathlib.Core.Logic.{_⊎_, inl, inr, ⊎-elim}
-use mathlib.Core.Bool.{Bool, true, false, cond, true≢false, false≢true, or-true}
+use mathlib.Core.Bool.{Bool, true, false, cond, _||_, true≢false, false≢true, or-true}
 use mathlib.Core.List.{List, [], _∷_, List·Memᴰ, List·Memᴰ·head, List·Memᴰ·tail}
 use Prim.Native.Nat.{ℕ, zero, suc, _≤_, _<_}
 use native.Mathlib.Decide.{decLt}
@@ -12,7 +12,8 @@ use Rattle.tile.specs.declared.Tile.{Tile}
 use Rattle.tile_set.specs.Holds.{Holds, holds-refl, holds-trans, holds-level, child-held, ancestor-holds, holder-is-ancestor, Valid, valid-holder}
 use Rattle.tile_set.specs.Merged.{Within, Apart, or-cases, is-false, bool-ext, whole-all, joins-when, joined-when, joined-four, joined-joins}
 use Rattle.tile_set.specs.Merged.{merged-cases, merged-kept, merged-joined, merged-covers, merged-apart}
-use Rattle.tile_set.specs.Rust.{empty, insert, removeAll, hasTileOrParent, containsAll, attemptMerge, put, rustSimplify, ByZoom, Walk}
+use Rattle.tile_set.specs.Rust.{empty, insert, removeAll, containsAll, attemptMerge, put, rustSimplify, ByZoom, Walk}
+use Rattle.tile_set.specs.RustParents.{ancestorsFrom, parents-are, any-ancestor}
 use Rattle.tile_set.specs.RustSets.{insert-cases, insert-here, insert-old, remove-all-of, remove-all-in, loop-keeps, after-turn, at-end}
 use Rattle.tile_set.specs.RustSets.{same-zoom, fourOf, children1-are-four, contains-four, each-of-four, child-in-four}
 use Rattle.tile_set.specs.Set.{anyBelow, ancestor, parentTile, child, whole, joins, joined, merged}
@@ -143,8 +144,8 @@ module _ (m : ℕ) (S : Tile → Bool) (small : Within 29 S) where
               absurd (true≢false (sym (joined-joins m C p 0 0 (omega arith) (omega arith) k) ∙ f 0 0 (omega arith) (omega arith) .1))
 
   attempt-keeps : (n : ℕ) (t : Tile) (C : Tile → Bool) (rest : List Tile) → Valid 29 t → n ≤ t .z → Covering (next-pending t n) C rest
-      → Covering none-pending (attemptMerge m n t C) rest
-  unfolding attemptMerge
+      → Covering none-pending (attemptMerge m (ancestorsFrom t n) C) rest
+  unfolding attemptMerge ancestorsFrom
   attempt-keeps zero t C rest v l h = settled (next-pending t 0) h (λ p a w o. omega (arith, o .0))
   attempt-keeps (suc s) t C rest v l h =
       let p = ancestor t s in
@@ -156,7 +157,7 @@ module _ (m : ℕ) (S : Tile → Bool) (small : Within 29 S) where
       attempted : List Tile → Type 0
       attempted four =
           let p = ancestor t s in
-          Covering none-pending (cond (ltb s m) C (cond (containsAll C four) (attemptMerge m s t (insert p (removeAll four C))) C)) rest
+          Covering none-pending (cond (ltb s m) C (cond (containsAll C four) (attemptMerge m (ancestorsFrom t s) (insert p (removeAll four C))) C)) rest
 
       only : (q : Tile) → m ≤ q .z → whole C q ≡ true → q ≡ ancestor t s
       only q a w =
@@ -168,8 +169,8 @@ module _ (m : ℕ) (S : Tile → Bool) (small : Within 29 S) where
       next = insert (ancestor t s) (removeAll (fourOf (ancestor t s)) C)
 
       pick : (b : Bool) → ltb s m ≡ b → (c : Bool) → whole C (ancestor t s) ≡ c
-          → (Covering (next-pending t s) next rest → Covering none-pending (attemptMerge m s t next) rest)
-          → Covering none-pending (cond b C (cond c (attemptMerge m s t next) C)) rest
+          → (Covering (next-pending t s) next rest → Covering none-pending (attemptMerge m (ancestorsFrom t s) next) rest)
+          → Covering none-pending (cond b C (cond c (attemptMerge m (ancestorsFrom t s) next) C)) rest
       pick true e c k g = settled (next-pending t (suc s)) h (λ p a w o. omega (arith, o .0, ltb-true s m e))
       pick false e true k g =
           g (subst (λ (R : Tile → Bool). Covering (next-pending t s) R rest) (sym (one-family-merged m (ancestor t s) C (ltb-false s m e) k only))
@@ -215,25 +216,32 @@ module _ (m : ℕ) (S : Tile → Bool) (small : Within 29 S) where
           (insert-cases t C (child p i j) (whole-all (insert t C) p .0 w i j a b))))
 
   put-keeps : (C : Tile → Bool) (t : Tile) (rest : List Tile) → Covering none-pending C (t ∷ rest) → Covering none-pending (put m C t) rest
-  put-keeps C t rest h = pick (hasTileOrParent C t) refl
+  put-keeps C t rest h = rw (parents-are t (omega (arith, here .zoom)), any-ancestor C t (t .z)) (pick covered refl)
     where
-      held : hasTileOrParent C t ≡ true → Held C t
+      here : Valid 29 t
+      here = small t (h .rest-of t (List·Memᴰ·head refl))
+
+      -- `has_tile_or_parent`
+      covered : Bool
+      covered = C t || anyBelow (t .z) (λ s. C (ancestor t s))
+
+      held : covered ≡ true → Held C t
       held e = ⊎-elim (λ k. (t, k, holds-refl t)) above (or-cases (C t) (anyBelow (t .z) (λ s. C (ancestor t s))) e)
         where
           above : anyBelow (t .z) (λ s. C (ancestor t s)) ≡ true → Held C t
           above k = let i = any-below-of (t .z) (λ s. C (ancestor t s)) k in (ancestor t (i .0), i .2, ancestor-holds t (i .0) (omega (arith, i .1)))
 
-      holder-found : (r : Tile) → C r ≡ true → Holds r t → hasTileOrParent C t ≡ true
+      holder-found : (r : Tile) → C r ≡ true → Holds r t → covered ≡ true
       holder-found r c g = found (decLt (r .z) (t .z))
         where
-          found : Dec (r .z < t .z) → hasTileOrParent C t ≡ true
+          found : Dec (r .z < t .z) → covered ≡ true
           found (yes l) = rw (any-below-in (t .z) (λ s. C (ancestor t s)) (r .z) l (sym (ap C (holder-is-ancestor g)) ∙ c)) (or-true (C t))
           found (no l) = rw (sym (ap C (holds-level g (omega arith))) ∙ c)
 
-      pick : (b : Bool) → hasTileOrParent C t ≡ b → Covering none-pending (cond b C (attemptMerge m (t .z) t (insert t C))) rest
+      pick : (b : Bool) → covered ≡ b → Covering none-pending (cond b C (attemptMerge m (ancestorsFrom t (t .z)) (insert t C))) rest
       pick true e = held-keeps C t rest h (held e)
       pick false e =
-          attempt-keeps (t .z) t (insert t C) rest (small t (h .rest-of t (List·Memᴰ·head refl))) (omega arith)
+          attempt-keeps (t .z) t (insert t C) rest here (omega arith)
           (insert-keeps C t rest h (λ r c g. true≢false (sym (holder-found r c g) ∙ e)))
 
   pub rust-simplest : (tiles : List Tile) → Walk S tiles → ByZoom tiles → Simplest m S (rustSimplify m tiles)

@@ -10,11 +10,17 @@ use borrow.Author.Tests.{leb-true, le-leb}
 use Rattle.tile.specs.declared.Tile.{Tile}
 use Rattle.tile_set.specs.Holds.{Holds, holds-trans, ancestor-holds, holder-is-ancestor}
 use Rattle.tile_set.specs.Merged.{Within, is-false, bool-ext, merged-same, merged-within}
-use Rattle.tile_set.specs.Rust.{empty, insert, Merging, rustMerge, keepRoot, rustRoots, Orders, rustWhile, ByZoom, Walk, Fair}
+use Rattle.tile_set.specs.Rust.{empty, insert, parent, Merging, rustMerge, holdsSome, keepRoot, rustRoots, Orders, rustWhile, ByZoom, Walk, Fair}
 use Rattle.tile_set.specs.RustMerge.{rust-merged, rust-changed}
+use Rattle.tile_set.specs.RustParents.{parent-is}
 use Rattle.tile_set.specs.RustSets.{insert-cases, insert-here, insert-old, loop-keeps, after-turn, at-end, same-zoom}
 use Rattle.tile_set.specs.Set.{anyBelow, ancestor, joins, merged, passes, uncovered}
 use Rattle.tile_set.specs.Uncovered.{any-below-of, any-below-in, uncovered-of, uncovered-or, uncovered-covers}
+
+any-below-same : (n : ℕ) (p q : ℕ → Bool) → ((i : ℕ) → i < n → p i ≡ q i) → anyBelow n p ≡ anyBelow n q
+unfolding anyBelow
+any-below-same zero p q e = refl
+any-below-same (suc n) p q e = rw (e n (omega arith), any-below-same n p q (λ i l. e i (omega arith)))
 
 module _ (m : ℕ) (S : Tile → Bool) where
   -- the first loop, with `rest` still to come
@@ -25,8 +31,11 @@ module _ (m : ℕ) (S : Tile → Bool) where
     order : ByZoom rest
 
   root-keeps : (roots : Tile → Bool) (t : Tile) (rest : List Tile) → Rooting roots (t ∷ rest) → Rooting (keepRoot m roots t) rest
-  root-keeps roots t rest h = pick (leb (t .z) m) refl (anyBelow (t .z) found) refl
+  root-keeps roots t rest h = rw (any-below-same (t .z) asked found (λ i l. rw (parent-is t i l))) (pick (leb (t .z) m) refl (anyBelow (t .z) found) refl)
     where
+      asked : ℕ → Bool
+      asked i = leb m i && holdsSome roots (parent t i)
+
       found : ℕ → Bool
       found i = leb m i && roots (ancestor t (t .z - 1 - i))
 
