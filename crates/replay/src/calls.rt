@@ -1,4 +1,5 @@
-// The calls of the list on standard input, one by one. A line that is no call and no heading is printed.
+// The calls of the list on standard input, one by one. A line that is no call and no heading is printed, and behind the last one how many
+// calls there were: a list that has lost its end is noticed by that.
 use crate::lines;
 use crate::lines::Line;
 use crate::parse;
@@ -6,9 +7,10 @@ use crate::parse::Parsed;
 use crate::parse::Shape;
 use crate::parts;
 
-// A call and its line. At the end of the list none is found.
+// A call, its line, and the how many-th it is. At the end of the list none is found.
 pub struct Call {
     pub found: bool,
+    pub count: u64,
     pub line: Line,
     pub shape: Shape,
 }
@@ -18,13 +20,8 @@ pub fn numbers() -> [u64; 4096] {
     [0; 4096]
 }
 
-// The first call. A list with none is reported, so that a list that is lost is noticed.
 pub fn first(text: &mut [u8; 65536], numbers: &mut [u64; 4096]) -> Call {
-    let call = seek(text, numbers, lines::before_first());
-    if !call.found {
-        io::write_all(1, b"no calls\n");
-    }
-    call
+    seek(text, numbers, lines::before_first(), 0)
 }
 
 // The call after `last`, which is printed unless its answer was the same.
@@ -33,7 +30,7 @@ pub fn next(text: &mut [u8; 65536], numbers: &mut [u64; 4096], last: Call, same:
     if !same {
         print(text, line);
     }
-    seek(text, numbers, line)
+    seek(text, numbers, line, last.count)
 }
 
 pub fn name(text: &[u8; 65536], call: Call) -> &[u8] {
@@ -52,8 +49,8 @@ pub fn answer(numbers: &[u64; 4096], call: Call) -> &[u64] {
     parts::numbers(numbers, shape.args, shape.answers)
 }
 
-// The first call behind a line.
-fn seek(text: &mut [u8; 65536], numbers: &mut [u64; 4096], last: Line) -> Call {
+// The first call behind a line, up to which there were so many.
+fn seek(text: &mut [u8; 65536], numbers: &mut [u64; 4096], last: Line, count: u64) -> Call {
     let mut line = last;
     // A list ends long before the turns do.
     let mut turns = u64::MAX;
@@ -61,12 +58,13 @@ fn seek(text: &mut [u8; 65536], numbers: &mut [u64; 4096], last: Line) -> Call {
         turns -= 1;
         line = lines::next_line(text, line);
         if line.filled == 0 {
-            return none(line);
+            return end(line, count);
         }
         match parsed(text, numbers, line) {
             Parsed::Call(shape) => {
                 return Call {
                     found: true,
+                    count: with_call(count, shape),
                     line,
                     shape,
                 };
@@ -75,12 +73,23 @@ fn seek(text: &mut [u8; 65536], numbers: &mut [u64; 4096], last: Line) -> Call {
             Parsed::Bad => print(text, line),
         }
     }
-    none(line)
+    end(line, count)
 }
 
-fn none(line: Line) -> Call {
+// A line without an answer is no call: it begins a build.
+fn with_call(count: u64, shape: Shape) -> u64 {
+    if shape.answers == 0 {
+        return count;
+    }
+    std::num::wrapping_add_u64(count, 1)
+}
+
+fn end(line: Line, count: u64) -> Call {
+    io::print_decimal(1, count);
+    io::write_all(1, b" calls\n");
     Call {
         found: false,
+        count,
         line,
         shape: Shape {
             name: 0,
@@ -90,7 +99,11 @@ fn none(line: Line) -> Call {
     }
 }
 
+// A line without its newline is cut off, and no call.
 fn parsed(text: &[u8; 65536], numbers: &mut [u64; 4096], line: Line) -> Parsed {
+    if line.end == line.filled {
+        return Parsed::Bad;
+    }
     parse::parse(whole(text, line), numbers)
 }
 

@@ -3,7 +3,8 @@ ghost use mathlib.Core.Path.{_≡_};
 ghost use Prim.Native.Nat.{_+_, _≤_};
 ghost use lib.ListN.{length};
 
-// A line is the bytes from `start` to `end`; the next one starts at `next`. The input is read up to `filled`: 0 at its end.
+// A line is the bytes from `start` to `end`; the next one starts at `next`. The input is read up to `filled`: 0 at its end. A line without
+// a newline ends at `filled`.
 pub struct Line {
     pub start: usize,
     pub end: usize,

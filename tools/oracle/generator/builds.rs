@@ -186,7 +186,7 @@ fn no_tile(operands: &[Operand]) -> u64 {
 }
 
 fn build(list: &mut List, random: &mut Random, window: &Window) {
-    list.begin("build");
+    list.begin();
     // The sets of the calls so far; None of a refused one.
     let mut kept: Vec<Option<Set>> = Vec::new();
     for _ in 0..3 + random.below(10) {
@@ -378,7 +378,7 @@ fn less_one(list: &mut List, random: &mut Random, depth: u8) {
         let whole = window.entry(0, 0, 0);
         let set: Set = ground(&window, &one).iter().map(|here| !here).collect();
         let result = settled(&window, &set);
-        list.begin("build");
+        list.begin();
         for places in [result.len() - 1, result.len(), result.len() + 5, 2] {
             made(list, Work::Difference, places, &[own(vec![whole]), own(one.clone())], &result);
         }
@@ -401,7 +401,7 @@ fn along_a_chain(list: &mut List, top: Xyz, deep: Xyz) {
     for entries in [vec![top, deep], rest.clone(), [&[top][..], &rest].concat()] {
         asked(list, &entries);
     }
-    list.begin("build");
+    list.begin();
     let both = [own(vec![top]), own(vec![deep])];
     made(list, Work::Difference, rest.len(), &both, &rest);
     made(list, Work::Difference, rest.len() - 1, &both, &rest);

@@ -1,4 +1,4 @@
-//! Writes one list of calls and answers for each module of the port into the folder that is named.
+//! Writes one list of calls and answers for each module of the port, and what its replay prints, into the folder that is named.
 mod bbox;
 mod beyond;
 mod builds;
@@ -38,9 +38,9 @@ fn main() {
         let mut list = List::default();
         fill(&mut list);
         let text = list.text();
-        println!("{name}.txt: {} bytes", text.len());
+        println!("{name}: {} bytes, {} calls", text.len(), list.calls());
         list.print_counts();
-        std::fs::write(format!("{folder}/{name}.txt"), text).expect("the list can be written");
+        write(&format!("{folder}/replay_{name}"), &text, list.calls());
         surprises.extend(list.surprises);
     }
     beyond::print();
@@ -50,4 +50,11 @@ fn main() {
     if !surprises.is_empty() {
         std::process::exit(1);
     }
+}
+
+// What a replay is given, and what it prints where nothing differs.
+fn write(folder: &str, list: &str, calls: usize) {
+    std::fs::create_dir_all(folder).expect("the folder can be made");
+    std::fs::write(format!("{folder}/stdin"), list).expect("the list can be written");
+    std::fs::write(format!("{folder}/stdout"), format!("{calls} calls\n")).expect("the count can be written");
 }

@@ -13,6 +13,7 @@ pub struct List {
     refused: String,
     // Of each function: the calls run, ruled and refused.
     counts: BTreeMap<String, [usize; 3]>,
+    builds: usize,
     seen: HashSet<String>,
     // Calls inside the domain at which the Rust stops, or is otherwise than document 01 says.
     pub surprises: Vec<String>,
@@ -63,10 +64,10 @@ impl List {
         self.counts.entry(name.to_string()).or_default()[2] += 1;
     }
 
-    /// A line that a build starts with.
-    pub fn begin(&mut self, name: &str) {
-        self.ruled += &format!("{name} =\n");
-        self.counts.entry(name.to_string()).or_default()[1] += 1;
+    /// The line that a build starts with. It is no call, and has no answer.
+    pub fn begin(&mut self) {
+        self.ruled += "build =\n";
+        self.builds += 1;
     }
 
     /// A call of a build, which stands behind the calls before it, whether it is refused or not, and as often as it is made.
@@ -92,9 +93,16 @@ impl List {
         text
     }
 
+    pub fn calls(&self) -> usize {
+        self.counts.values().flatten().sum()
+    }
+
     pub fn print_counts(&self) {
         for (name, [run, ruled, refused]) in &self.counts {
             println!("    {name}: {run} run, {ruled} answers and {refused} refusals by document 01");
+        }
+        if self.builds > 0 {
+            println!("    in {} builds", self.builds);
         }
     }
 }

@@ -4,10 +4,10 @@ use Rattle.replay.proofs.calls.seek.Statement.{statement}
 use Rattle.replay.proofs.calls.seek.Tie as tie
 
 abbrev Inv-loop : tie.InvT-loop
-Inv-loop text₀ numbers₀ line₀ turns₀ text numbers line turns = Unit
+Inv-loop text₀ numbers₀ count line₀ turns₀ text numbers line turns = Unit
 
 abbrev μ-loop : tie.MeasureT-loop
-μ-loop text₀ numbers₀ line₀ turns₀ text numbers line turns = turns
+μ-loop text₀ numbers₀ count line₀ turns₀ text numbers line turns = turns
 
 loop-holds : tie.Need-loop-holds Inv-loop μ-loop
 loop-holds c = search needs
@@ -18,8 +18,8 @@ sub-turns c = search needs
 next-line-requires : tie.Need-next-line-requires Inv-loop μ-loop
 next-line-requires c κs = search needs
 
-none-requires : tie.Need-none-requires Inv-loop μ-loop
-none-requires c κs = search needs
+end-requires : tie.Need-end-requires Inv-loop μ-loop
+end-requires c κs = search needs
 
 returns : tie.Need-returns Inv-loop μ-loop
 returns c = search needs
@@ -29,6 +29,9 @@ parsed-requires c κs = search needs
 
 enum-known-shape : tie.Need-enum-known-shape Inv-loop μ-loop
 enum-known-shape c = search needs
+
+with-call-requires : tie.Need-with-call-requires Inv-loop μ-loop
+with-call-requires c κs = search needs
 
 returns-2 : tie.Need-returns-2 Inv-loop μ-loop
 returns-2 c = search needs
@@ -54,8 +57,8 @@ loop-less-2 c = search needs
 loop-again-2 : tie.Need-loop-again-2 Inv-loop μ-loop
 loop-again-2 c = search needs
 
-none-requires-2 : tie.Need-none-requires-2 Inv-loop μ-loop
-none-requires-2 c κs = search needs
+end-requires-2 : tie.Need-end-requires-2 Inv-loop μ-loop
+end-requires-2 c κs = search needs
 
 returns-3 : tie.Need-returns-3 Inv-loop μ-loop
 returns-3 c = search needs
@@ -69,10 +72,11 @@ seek-spec =
     loop-holds
     sub-turns
     next-line-requires
-    none-requires
+    end-requires
     returns
     parsed-requires
     enum-known-shape
+    with-call-requires
     returns-2
     enum-told
     loop-less
@@ -81,5 +85,5 @@ seek-spec =
     print-requires
     loop-less-2
     loop-again-2
-    none-requires-2
+    end-requires-2
     returns-3)
