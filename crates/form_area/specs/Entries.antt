@@ -21,10 +21,10 @@ use Rattle.form.specs.Keys.{keys-first-key, first-key, key-first, one-key, only
 use Rattle.form.specs.Once.{one-keys}
 use Rattle.form.specs.Words.{keyLength}
 use Rattle.form_area.specs.Area.{keyOfRun, keysRefusal, keyEntry, runEntries}
-use Rattle.ids.specs.Entry.{entryNumber, entry-of-tile}
+use Rattle.ids.specs.Entry.{entryOf}
 use Rattle.quadkey.specs.Key.{keyRefusal, keyTile}
 use Rattle.quadkey.specs.Theorems.{key-to-tile-to-key}
-use Rattle.tile.specs.OnMap.{noTile}
+use Rattle.tile.specs.OnMap.{OnMap, noTile}
 use Rattle.tile.specs.declared.Tile.{Tile}
 
 -- what is known of the keys when all are entered: none is bad, their count, and the entries if there were places for all
@@ -49,10 +49,10 @@ keys-refusal-append (run ∷ done) runs e = go (keyRefusal (keyOfRun run)) e (ke
 
 -- what the tile of a key says of its entry
 pub key-kept : (run : List ℕ) (t : Tile) → record { number = 0; value = t } ≡ keyTile (keyOfRun run)
-    → (keyRefusal (keyOfRun run) ≡ 0) × (entryNumber (t .x) (t .y) (t .z) ≡ keyEntry (keyOfRun run))
+    → (keyRefusal (keyOfRun run) ≡ 0) × OnMap (t .x) (t .y) (t .z) × (entryOf (t .x) (t .y) (t .z) ≡ keyEntry (keyOfRun run))
 key-kept run t e =
     let a = answer-found (keyRefusal (keyOfRun run)) noTile _ t e in
-    (a .0, rw (a .1) (entry-of-tile (key-to-tile-to-key (keyOfRun run) (a .0) .1)))
+    (a .0, rw (a .1) (key-to-tile-to-key (keyOfRun run) (a .0) .1), ap (λ (t : Tile). entryOf (t .x) (t .y) (t .z)) (a .1))
 
 -- how far the keys have been entered: these are done, those are left
 pub record Entering (at n : ℕ) (entries body : List ℕ) (runs : List (List ℕ)) : Type 0 where

@@ -5,7 +5,7 @@ use mathlib.Core.List.{List, map}
 use Prim.Native.Nat.{ℕ}
 use lib.Dec.{eqb}
 use Rattle.errors.specs.Answer.{Answer, answer}
-use Rattle.tile.specs.OnMap.{OnMap, tileAt, noTile, tileRefusal, on-map-accepted}
+use Rattle.tile.specs.OnMap.{OnMap, tileAt, noTile}
 use Rattle.tile.specs.declared.Tile.{Tile}
 use Rattle.ids.specs.Id.{idOf, idTile, idRefusal}
 use Rattle.ids.specs.Laws.{id-again, tile-again, id-accepted, accepted-id}
@@ -16,10 +16,6 @@ entryOf x y z = idOf x y z
 -- tiles as a list holds them
 abbrev pub entriesOf : List Tile → List ℕ
 entriesOf ts = map (λ t. entryOf (t .x) (t .y) (t .z)) ts
-
--- the entry of what may be no tile: then 0
-abbrev pub entryNumber : ℕ → ℕ → ℕ → ℕ
-entryNumber x y z = answer (tileRefusal x y z) 0 (entryOf x y z) .value
 
 unfoldable pub entryTile : ℕ → Tile
 entryTile n = idTile n
@@ -32,9 +28,6 @@ isEntry n = eqb (entryRefusal n) 0
 
 abbrev pub entryTileOf : ℕ → Answer Tile
 entryTileOf n = answer (entryRefusal n) noTile (entryTile n)
-
-pub entry-of-tile : {x y z : ℕ} → OnMap x y z → entryNumber x y z ≡ entryOf x y z
-entry-of-tile m = rw (on-map-accepted m, entryNumber)
 
 pub entry-accepted : (n : ℕ) → OnMap (entryTile n .x) (entryTile n .y) (entryTile n .z) → entryRefusal n ≡ 0
 unfolding entryTile entryRefusal

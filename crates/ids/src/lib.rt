@@ -9,7 +9,7 @@ ghost use mathlib.Core.Path.{_≡_};
 ghost use Prim.Native.Nat.{_<_, _≤_};
 ghost use Rattle.errors.specs.Cases.{u64Case};
 ghost use Rattle.tile.specs.OnMap.{OnMap, tileCase};
-ghost use Rattle.ids.specs.Entry.{entryNumber, entryTileOf};
+ghost use Rattle.ids.specs.Entry.{entryOf, entryTileOf};
 ghost use Rattle.ids.specs.Id.{idOf, toIdOf, fromIdOf};
 ghost use Rattle.ids.specs.Rmid.{levelStart, toRmidOf, zoomOf, offsetZoomCase, offsetZoomOf, fromRmidOf};
 
@@ -53,14 +53,12 @@ pub fn from_id(id: u64) -> TileAnswer
     })
 }
 
-// The number that stands for a tile in a list; 0 where x, y and z name no tile.
+// The number that stands for a tile in a list, for callers that have checked the tile.
 pub fn entry(x: u32, y: u32, z: u8) -> u64
-    ensures { λ r. ⌜ r ≡ entryNumber x y z ⌝ }
+    requires { ⌜ OnMap x y z ⌝ }
+    ensures { λ r. ⌜ r ≡ entryOf x y z ⌝ }
 {
-    match to_id(x, y, z) {
-        U64Answer::Number(id) => id,
-        U64Answer::Refused(_) => 0,
-    }
+    id(x, y, z)
 }
 
 // The tile that a number in a list stands for.

@@ -2,11 +2,11 @@
 use mathlib.Core.Path.{_≡_, refl, ap, _∙_}
 use mathlib.Core.Bool.{Bool, true, false, cond}
 use mathlib.Core.List.{List}
-use Prim.Native.Nat.{ℕ, zero, suc}
+use Prim.Native.Nat.{ℕ}
 use lib.ListN.{length}
 use Rattle.bbox.specs.declared.BBox.{BBox}
 use Rattle.bbox.specs.declared.BBoxes.{BBoxes}
-use Rattle.errors.specs.Answer.{Answer, Lent, answer}
+use Rattle.errors.specs.Answer.{Answer, Lent}
 use Rattle.errors.specs.Cases.{countCase, left}
 use Rattle.errors.specs.declared.Count.{Count}
 use Rattle.fns.specs.declared.Limits.{Limits}
@@ -75,14 +75,6 @@ bool-goes-out-as-1-or-0 false = refl
 
 pub same-told : {a b : Bool} → a ≡ b → asByte (never a) ≡ asByte (never b)
 same-told e = ap (λ (b : Bool). asByte (never b)) e
-
--- a number and a value that two calls give, each its own part of one answer
-pub number-and-value : {n r v : ℕ} (w : ℕ) → r ≡ n → v ≡ answer n 0 w .value → answered r v ≡ answer n 0 w
-number-and-value {n} w e f = rw (e, f) (both n)
-  where
-    both : (n : ℕ) → answered n (answer n 0 w .value) ≡ answer n 0 w
-    both zero = refl
-    both (suc n) = refl
 
 -- a count that is handed on is the answer's, beside the memory that the call left
 pub handed-on : (answer : Count) (r n : ℕ) (memory : List ℕ) {L : Lent ℕ} → answered r n ≡ countCase answer → left answer memory ≡ L → given r n memory ≡ L

@@ -1,5 +1,6 @@
 // The tiles around a tile, and the numbers that stand for tiles: the calls of fns.rs.
 use crate::give;
+use errors::Check;
 use fns::LimitsAnswer;
 use ids::OffsetZoomAnswer;
 use tile::OptionU8;
@@ -207,8 +208,16 @@ pub extern "C" fn nori_from_id(id: u64, tx: &mut u32, ty: &mut u32, tz: &mut u8)
 pub extern "C" fn nori_entry(x: u32, y: u32, z: u8, entry: &mut u64) -> u8
     ensures { λ r. ⌜ answered r (now (entry .exit)) ≡ answer (tileRefusal x y z) 0 (entryOf x y z) ⌝ }
 {
-    *entry = ids::entry(x, y, z);
-    give::check(tile::check(x, y, z))
+    match tile::check(x, y, z) {
+        Check::Fine => {
+            *entry = ids::entry(x, y, z);
+            0
+        }
+        Check::Refused(why) => {
+            *entry = 0;
+            errors::number(why)
+        }
+    }
 }
 
 // The tile that a number in a list stands for.

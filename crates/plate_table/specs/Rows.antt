@@ -6,7 +6,7 @@ use Prim.Native.String.{String, [] as empty, _∷_ as _then_}
 use lib.Dec.{ltb}
 use lib.ListN.{length}
 use Rattle.errors.specs.Answer.{Answer, Lent, short, _when_, _else_}
-use Rattle.ids.specs.Entry.{entryNumber}
+use Rattle.ids.specs.Entry.{entriesOf}
 use Rattle.quadkey.specs.Key.{keyTile}
 use Rattle.tile_list.specs.List.{listAnswer}
 use Rattle.zoom.specs.Zooms.{LentTwo, lentTwo}
@@ -28,12 +28,9 @@ abbrev pub key : String → List ℕ
 key empty = []
 key (c then s) = code c ∷ key s
 
-abbrev pub entryOfKey : List ℕ → ℕ
-entryOfKey bytes = entryNumber (keyTile bytes .value .x) (keyTile bytes .value .y) (keyTile bytes .value .z)
-
--- keys as a list of tiles holds them
+-- the tiles of keys, as a list holds them
 abbrev pub entriesOfKeys : List String → List ℕ
-entriesOfKeys keys = map (λ s. entryOfKey (key s)) keys
+entriesOfKeys keys = entriesOf (map (λ s. keyTile (key s) .value) keys)
 
 -- ---- what is answered
 

@@ -4,7 +4,7 @@ use native.Mathlib.Numerals.{add-one}
 use native.Mathlib.Omega.{arith}
 use lib.ListN.{length, length-set}
 use Rattle.children.specs.Children.{familyOf, descendants}
-use Rattle.ids.specs.Entry.{entriesOf, entry-of-tile}
+use Rattle.ids.specs.Entry.{entriesOf}
 use Rattle.constants.specs.Limits.{maxZoom-small}
 use Rattle.tile.specs.OnMap.{on-map-small}
 use Rattle.children.specs.Laws.{childEntries, quarters, quarters-none, Quarter, in-quarters, quarters-kept, quarter-written, quarters-done}
@@ -51,7 +51,7 @@ fill-kept t c =
     quarters-kept (a .turn) (a .depth - 1) (a .x) (a .y) (a .z) (a .out .now) (i .1) (fill-quarter t c .whole) (i .0) (i .2)
 
 fill-entry-requires : (t : ℕ) → fill-lts.Need-entry-requires (fill-calls t) (fill-at t) fill.Post fill-Inv-loop fill-μ-loop
-fill-entry-requires t c κs = tt
+fill-entry-requires t c κs = c .before .before .pre .1 .1 .0
 
 fill-slice-write-out : (t : ℕ) → fill-lts.Need-slice-write-out (fill-calls t) (fill-at t) fill.Post fill-Inv-loop fill-μ-loop
 fill-slice-write-out t c = omega (arith, rw (c .before .if1 .taken) at (c .before .before .before .pre .1 .1 .1 .1))
@@ -64,7 +64,7 @@ unfolding descendants
 fill-returns t c =
     let top = c .before .before .before in
     let e = c .before .if1 .taken in
-    rw (e, ← entry-of-tile (top .pre .1 .1 .0), ← c .entry .ensures)
+    rw (e, ← c .entry .ensures)
     (one-place (top .args .out .now) (c .entry .result) (rw e at (top .pre .1 .1 .1 .1)))
 
 fill-loop-holds : (t : ℕ) → fill-lts.Need-loop-holds (fill-calls t) (fill-at t) fill.Post fill-Inv-loop fill-μ-loop

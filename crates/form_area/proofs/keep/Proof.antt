@@ -19,7 +19,9 @@ enum-known-t : tie.Need-enum-known-t
 enum-known-t c = search needs
 
 entry-requires : tie.Need-entry-requires
-entry-requires c κs = search needs
+entry-requires c κs =
+    let run = c .before .before .before .before .before .before .before .args .run .now in
+    key-kept run (c .before .before .t .given .0 .0) (sym (ap tileCase (c .before .before .t .given .1)) ∙ c .before .before .before .before .tile-of .ensures) .1
 
 mul-entries : tie.Need-mul-entries
 mul-entries c = search needs
@@ -37,7 +39,7 @@ returns : tie.Need-returns
 returns c =
     let run = c .before .before .before .before .before .before .before .before .args .run .now in
     let k = key-kept run (c .before .before .before .t .given .0 .0) (sym (ap tileCase (c .before .before .before .t .given .1)) ∙ c .before .before .before .before .before .tile-of .ensures) in
-    (k .0, ap (λ (e : ℕ). set (c .before .before .before .before .before .before .before .before .args .entries .now) (c .before .before .before .before .before .before .before .before .args .n) e) (c .entry .ensures ∙ k .1))
+    (k .0, ap (λ (e : ℕ). set (c .before .before .before .before .before .before .before .before .args .entries .now) (c .before .before .before .before .before .before .before .before .args .n) e) (c .entry .ensures ∙ k .2))
 
 returns-2 : tie.Need-returns-2
 returns-2 c =

@@ -6,7 +6,6 @@ use native.Mathlib.Numerals.{add-one}
 use native.Mathlib.Omega.{arith}
 use lib.ListN.{length}
 use borrow.Author.Needs.{needs}
-use Rattle.ids.specs.Entry.{entry-of-tile}
 use Rattle.neighbors.specs.Neighbors.{spotTiles, SpotOnMap}
 use Rattle.neighbors.specs.Laws.{paste-one, paste-none}
 use Rattle.neighbors.specs.declared.Spot.{Spot}
@@ -17,14 +16,14 @@ use Rattle.neighbors.proofs.put.Tie as tie
 enum-known-spot : tie.Need-enum-known-spot
 enum-known-spot c = search needs
 
+on-map : (c : tie.After-known-told) → SpotOnMap (c .before .before .before .before .args .z) (At (c .before .spot .given .0 .0) (c .before .spot .given .0 .1 .0))
+on-map c = subst (λ (s : Spot). SpotOnMap (c .before .before .before .before .args .z) s) (c .before .spot .given .1) (c .before .before .before .before .pre .0)
+
 entry-requires : tie.Need-entry-requires
-entry-requires c κs = search needs
+entry-requires c κs = on-map c
 
 mul-out : tie.Need-mul-out
 mul-out c = search needs
-
-on-map : (c : tie.After-known-told) → SpotOnMap (c .before .before .before .before .args .z) (At (c .before .spot .given .0 .0) (c .before .spot .given .0 .1 .0))
-on-map c = subst (λ (s : Spot). SpotOnMap (c .before .before .before .before .args .z) s) (c .before .spot .given .1) (c .before .before .before .before .pre .0)
 
 room : (c : tie.After-known-told) → c .before .before .before .before .args .n < length (c .before .before .before .before .args .out .now)
 room c = rw add-one at (subst (λ (s : Spot). c .before .before .before .before .args .n + length (spotTiles (c .before .before .before .before .args .z) s) ≤ length (c .before .before .before .before .args .out .now)) (c .before .spot .given .1) (c .before .before .before .before .pre .1))
@@ -44,7 +43,7 @@ same-length c = search needs
 returns : tie.Need-returns
 returns c =
     let e = c .before .before .spot .given .1 in
-    (rw e, rw (e, ← entry-of-tile (on-map (c .before)), ← c .entry .ensures) (paste-one _ _ _ (room (c .before))))
+    (rw e, rw (e, ← c .entry .ensures) (paste-one _ _ _ (room (c .before))))
 
 returns-2 : tie.Need-returns-2
 returns-2 c =

@@ -6,13 +6,13 @@ use lib.Dec.{eqb}
 use lib.ListN.{length-set}
 use borrow.Author.Tests.{eq-eqb, ne-eqb}
 use borrow.Author.Needs.{needs}
-use Rattle.ids.specs.Entry.{entriesOf, entryNumber, entry-of-tile}
+use Rattle.ids.specs.Entry.{entryOf, entriesOf}
 use Rattle.errors.specs.Answer.{_when_, _else_}
 use Rattle.errors.specs.Laws.{check-fine, check-refused, stands}
 use Rattle.errors.specs.Memory.{written-refused, written-short, written-done}
-use Rattle.tile.specs.OnMap.{tileRefusal, accepted-on-map}
+use Rattle.tile.specs.OnMap.{OnMap, tileRefusal, accepted-on-map}
 use Rattle.errors.specs.declared.Refusal.the-variants.{NoRelative}
-use Rattle.neighbors.specs.Neighbors.{siblingsOf}
+use Rattle.neighbors.specs.Neighbors.{siblingsOf, other}
 use Rattle.neighbors.specs.Laws.{other-small, three-places}
 use Rattle.neighbors.proofs.siblings.Statement.{statement}
 use Rattle.neighbors.proofs.siblings.Tie as tie
@@ -46,11 +46,27 @@ returns-3 c =
     let e : (tileRefusal (a .x) (a .y) (a .z) else 3 when eqb (a .z) 0) ≡ 0 = rw (fine, ne-eqb _ _ (c .before .if1 .left)) in
     written-short (entriesOf (siblingsOf (a .x) (a .y) (a .z))) _ e (c .if2 .taken)
 
+-- behind the tests: the tile is one of the map and not the root, and so its siblings are tiles of the map
+fine : (c : tie.Else2) → tileRefusal (c .before .before .before .before .before .before .args .x) (c .before .before .before .before .before .before .args .y) (c .before .before .before .before .before .before .args .z) ≡ 0
+fine c = check-fine (c .before .before .enum-told .given .1) (c .before .before .before .before .check .ensures)
+
+column : {x y z n : ℕ} → OnMap x y z → 0 < z → n ≡ other x → OnMap n y z
+column {x = x} {z = z} m p e = record { zoom = m .zoom; column = rw e (other-small x z p (m .column)); row = m .row }
+
+row : {x y z n : ℕ} → OnMap x y z → 0 < z → n ≡ other y → OnMap x n z
+row {y = y} {z = z} m p e = record { zoom = m .zoom; column = m .column; row = rw e (other-small y z p (m .row)) }
+
+on-map : (c : tie.Else2) → OnMap (c .before .before .before .before .before .before .args .x) (c .before .before .before .before .before .before .args .y) (c .before .before .before .before .before .before .args .z)
+on-map c = accepted-on-map _ _ _ (fine c)
+
+deep : (c : tie.Else2) → 0 < c .before .before .before .before .before .before .args .z
+deep c = omega (arith, c .before .if1 .left)
+
 beside-requires : tie.Need-beside-requires
 beside-requires c κs = search needs
 
 entry-requires : tie.Need-entry-requires
-entry-requires c κs = search needs
+entry-requires c κs = column (on-map (c .before)) (deep (c .before)) (c .beside .ensures)
 
 slice-write-out : tie.Need-slice-write-out
 slice-write-out c = search needs
@@ -59,7 +75,7 @@ beside-requires-2 : tie.Need-beside-requires-2
 beside-requires-2 c κs = search needs
 
 entry-requires-2 : tie.Need-entry-requires-2
-entry-requires-2 c κs = search needs
+entry-requires-2 c κs = let s = c .before .before .before in row (on-map s) (deep s) (c .beside2 .ensures)
 
 slice-write-out-2 : tie.Need-slice-write-out-2
 slice-write-out-2 c = simp length-set (omega arith)
@@ -71,7 +87,9 @@ beside-requires-4 : tie.Need-beside-requires-4
 beside-requires-4 c κs = search needs
 
 entry-requires-3 : tie.Need-entry-requires-3
-entry-requires-3 c κs = search needs
+entry-requires-3 c κs =
+    let s = c .before .before .before .before .before .before in
+    row (column (on-map s) (deep s) (c .before .beside3 .ensures)) (deep s) (c .beside4 .ensures)
 
 slice-write-out-3 : tie.Need-slice-write-out-3
 slice-write-out-3 c = search needs
@@ -82,21 +100,14 @@ same-length c = search needs
 returns-4 : tie.Need-returns-4
 returns-4 c =
     let room = c .before .before .before .before .before .before .before in
-    let deep = room .before in
-    let told = deep .before in
-    let a = told .before .before .before .before .args in
-    let fine = check-fine (told .enum-told .given .1) (told .before .before .check .ensures) in
-    let m = accepted-on-map (a .x) (a .y) (a .z) fine in
-    let e : (tileRefusal (a .x) (a .y) (a .z) else 3 when eqb (a .z) 0) ≡ 0 = rw (fine, ne-eqb _ _ (deep .if1 .left)) in
-    let p : 0 < a .z = omega arith in
-    let cx = other-small (a .x) (a .z) p (m .column) in
-    let cy = other-small (a .y) (a .z) p (m .row) in
-    let u = ap (λ (n : ℕ). entryNumber n (a .y) (a .z)) (c .before .before .before .before .before .before .beside .ensures) in
-    let v = ap (λ (n : ℕ). entryNumber (a .x) n (a .z)) (c .before .before .before .before .beside2 .ensures) in
-    let w = ap₂ (λ (n k : ℕ). entryNumber n k (a .z)) (c .before .before .beside3 .ensures) (c .before .beside4 .ensures) in
-    let one = c .before .before .before .before .before .entry .ensures ∙ (u ∙ entry-of-tile (record { zoom = m .zoom; column = cx; row = m .row })) in
-    let two = c .before .before .before .entry2 .ensures ∙ (v ∙ entry-of-tile (record { zoom = m .zoom; column = m .column; row = cy })) in
-    let three = c .entry3 .ensures ∙ (w ∙ entry-of-tile (record { zoom = m .zoom; column = cx; row = cy })) in
+    let a = room .before .before .before .before .before .before .args in
+    let e : (tileRefusal (a .x) (a .y) (a .z) else 3 when eqb (a .z) 0) ≡ 0 = rw (fine room, ne-eqb _ _ (room .before .if1 .left)) in
+    let u = ap (λ (n : ℕ). entryOf n (a .y) (a .z)) (c .before .before .before .before .before .before .beside .ensures) in
+    let v = ap (λ (n : ℕ). entryOf (a .x) n (a .z)) (c .before .before .before .before .beside2 .ensures) in
+    let w = ap₂ (λ (n k : ℕ). entryOf n k (a .z)) (c .before .before .beside3 .ensures) (c .before .beside4 .ensures) in
+    let one = c .before .before .before .before .before .entry .ensures ∙ u in
+    let two = c .before .before .before .entry2 .ensures ∙ v in
+    let three = c .entry3 .ensures ∙ w in
     let put = three-places _ _ _ (a .out .now) (room .if2 .left) in
     written-done (entriesOf (siblingsOf (a .x) (a .y) (a .z))) (a .out .now) _ e (room .if2 .left) refl (rw (one, two, three) put)
 

@@ -5,8 +5,8 @@ use native.Mathlib.Omega.{arith}
 use borrow.Author.Needs.{needs}
 use Rattle.bits.specs.Powers.{pow-within, high-part-below, low-part}
 use Rattle.constants.specs.Limits.{maxZoom-small}
-use Rattle.ids.specs.Entry.{entryNumber, entry-of-tile}
-use Rattle.tile.specs.OnMap.{on-map-small}
+use Rattle.ids.specs.Entry.{entryOf}
+use Rattle.tile.specs.OnMap.{OnMap, on-map-small}
 use Rattle.tile.specs.declared.Tile.{Tile}
 use Rattle.quadtree.specs.Laws.{rank-small, rank-taken, rank-tile}
 use Rattle.quadtree.specs.Lists.{tileEntry, by-tile}
@@ -68,17 +68,20 @@ sub-entry-2 c = high-part-below (c .before .args .r) (c .zoom-in .result) 64 (c 
 cast-entry-4 : tie.Need-cast-entry-4
 cast-entry-4 c = omega (arith, row c, on-map-small (c .before .pre .on-map) .1)
 
-entry-requires : tie.Need-entry-requires
-entry-requires c κs = search needs
+same-tile : {x y z a b k : ℕ} → a ≡ x → b ≡ y → k ≡ z → OnMap x y z → OnMap a b k
+same-tile e f g m = rw (e, f, g) m
 
-same-entry : {x y z a b k : ℕ} → a ≡ x → b ≡ y → k ≡ z → entryNumber a b k ≡ entryNumber x y z
+entry-requires : tie.Need-entry-requires
+entry-requires c κs = same-tile (column c) (row c) (taken c .0) (c .before .pre .on-map)
+
+same-entry : {x y z a b k : ℕ} → a ≡ x → b ≡ y → k ≡ z → entryOf a b k ≡ entryOf x y z
 same-entry e f g = rw (e, f, g)
 
 returns : tie.Need-returns
 returns c =
     let s = c .before .before in
     let t : rankTile (s .args .r) ≡ s .pre .tile = ap rankTile (sym (s .pre .number)) ∙ rank-tile (s .pre .tile) (s .pre .on-map) in
-    c .entry .ensures ∙ (same-entry (column (c .before)) (row (c .before)) (taken (c .before) .0) ∙ (entry-of-tile (s .pre .on-map) ∙ ap tileEntry (sym t)))
+    c .entry .ensures ∙ (same-entry (column (c .before)) (row (c .before)) (taken (c .before) .0) ∙ ap tileEntry (sym t))
 
 pub entry-of-rank-spec : {M : Type 1} → statement M
 entry-of-rank-spec =
