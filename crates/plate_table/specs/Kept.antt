@@ -6,10 +6,12 @@ use mathlib.Core.Bool.{Bool, true, false}
 use mathlib.Core.List.{List, [], _∷_, List·Memᴰ, List·Memᴰ·head, List·Memᴰ·not-nil, List·Memᴰ·cases-cons, List·Memᴰ·eq-of-singleton, Memᴰ·cast}
 use Prim.Native.Nat.{ℕ, _-_, _≤_, _<_}
 use native.Mathlib.Omega.{arith}
+use lib.Dec.{ltb}
 use lib.ListN.{length}
-use Rattle.bits.specs.Tests.{in-map, into-map}
-use Rattle.constants.specs.Limits.{maxZoom}
-use Rattle.ids.specs.Entry.{entryOf, entryTile, entriesOf, entry-tile-again}
+use borrow.Author.Tests.{eq-eqb}
+use Rattle.bits.specs.Tests.{in-map, into-map, in-all}
+use Rattle.constants.specs.Limits.{maxZoom, maxEntries}
+use Rattle.ids.specs.Entry.{entryOf, entryTile, entryRefusal, entriesOf, isEntry, entry-accepted, entry-tile-again}
 use Rattle.plate_table.specs.Rows.{keeps}
 use Rattle.tile.specs.OnMap.{tileAt}
 use Rattle.tile.specs.Order.{Before, by-z}
@@ -40,7 +42,20 @@ module _ {ts : List Tile} (here : InFirstColumn ts) where
   again : (t : Tile) → List·Memᴰ t ts → entryTile (entryOf (t .x) (t .y) (t .z)) ≡ t
   again t m = entry-tile-again (t .x) (t .y) (t .z) (map-tile t (here .of-map t m))
 
-  -- their entries name just them
+  -- their entries are not refused
+  fine : (t : Tile) → List·Memᴰ t ts → entryRefusal (entryOf (t .x) (t .y) (t .z)) ≡ 0
+  fine t m = entry-accepted _ (rw (again t m) (map-tile t (here .of-map t m)))
+
+  not-refused : ltb maxEntries (length (entriesOf ts)) ≡ false → listRefusal (entriesOf ts) ≡ 0
+  unfolding listRefusal
+  not-refused h = rw (h, in-all isEntry (entriesOf ts) entries)
+    where
+      entries : (n : ℕ) → List·Memᴰ n (entriesOf ts) → isEntry n ≡ true
+      entries n m =
+          let u = in-map (λ (t : Tile). entryOf (t .x) (t .y) (t .z)) ts m in
+          eq-eqb _ _ (ap entryRefusal (u .2) ∙ fine (u .0) (u .1))
+
+  -- they name just these tiles
   listed-in : (t : Tile) → List·Memᴰ t ts → listed (entriesOf ts) t ≡ true
   listed-in t m =
       names entryTile (entriesOf ts) (entryOf (t .x) (t .y) (t .z)) t (into-map (λ (t : Tile). entryOf (t .x) (t .y) (t .z)) ts m) (again t m)
@@ -122,6 +137,10 @@ of-both t m = pick (List·Memᴰ·cases-cons m)
     pick (inl e) = inl e
     pick (inr n) = inr (List·Memᴰ·eq-of-singleton n)
 
+pub both-accepted : listRefusal (entriesOf both) ≡ 0
+unfolding maxEntries
+both-accepted = not-refused both-here refl
+
 abbrev sent : Tile → Bool
 sent = listed (entriesOf both)
 
@@ -169,6 +188,10 @@ simplify-keeps-one = ap entriesInOrder (fun-ext (λ t. sym (simplified-is (liste
     }
 
 -- "The empty list settles to itself"
+pub none-accepted : listRefusal [] ≡ 0
+unfolding maxEntries
+none-accepted = not-refused none-here refl
+
 pub empty-settles : entriesInOrder (simplified maxZoom 0 (listed [])) ≡ []
 empty-settles = ap entriesInOrder (fun-ext (λ t. sym (simplified-is (listed-on-map none-here) none-left t))) ∙ listed-again none-here
   where

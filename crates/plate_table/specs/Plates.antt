@@ -4,23 +4,21 @@ use mathlib.Core.Path.{_≡_, refl}
 use mathlib.Core.Bool.{false}
 use mathlib.Core.List.{[], _∷_}
 use Prim.Native.Nat.{_+_, _-_, _^_}
-use Rattle.bits.specs.Tests.{allOf}
 use Rattle.children.specs.Children.{gather}
 use Rattle.constants.specs.Limits.{maxZoom, maxEntries}
 use Rattle.errors.specs.Answer.{written}
 use Rattle.fns.specs.Fns.{parentRefusal, parentOf}
-use Rattle.ids.specs.Entry.{entryOf, entryRefusal, entriesOf}
-use Rattle.ids.specs.Id.{idOf, idTile, idRefusal, toIdOf}
+use Rattle.ids.specs.Entry.{entriesOf}
+use Rattle.ids.specs.Id.{idOf, toIdOf}
 use Rattle.ids.specs.Rmid.{levelStart, toRmidOf}
 use Rattle.merge.specs.Merge.{simplifyV1Of, simplifyOf}
 use Rattle.neighbors.specs.Neighbors.{siblingsWritten, neighborsWritten}
-use Rattle.plate_table.specs.Kept.{answers, v1-keeps-both, simplify-keeps-one, empty-settles}
+use Rattle.plate_table.specs.Kept.{answers, both-accepted, none-accepted, v1-keeps-both, simplify-keeps-one, empty-settles}
 use Rattle.plate_table.specs.Rows.{Row, row, key, entriesOfKeys, accepted, refused, keeps, ranges}
 use Rattle.quadkey.specs.Key.{keyFrom, keyWritten, allDigits, keyRefusal, spelled}
 use Rattle.tile.specs.Given.{given}
 use Rattle.tile.specs.OnMap.{tileAt, noTile, tileRefusal}
 use Rattle.tile.specs.declared.OptionU8.the-variants.{None, Some}
-use Rattle.tile_list.specs.List.{listRefusal}
 use Rattle.tile_zbox.specs.Box.{boxAt, boxRefusal, wrongEdges, boxLength, lengthOf}
 use Rattle.zoom.specs.Bits.{hasBit, those, setOf}
 use Rattle.zoom.specs.Zooms.{listed, anyDeeper, zvecSet, zoomsOf, firstRun, lastRun, inRun, runStarts, runEnds, rangesOf}
@@ -79,7 +77,7 @@ abbrev pub Plates : Type 0
 Plates = (p : Plate) → table p .gives ≡ table p .says
 
 pub plates : Plates
-unfolding tileRefusal maxZoom maxEntries keyFrom idOf levelStart parentRefusal entryOf gather boxRefusal wrongEdges boxLength hasBit those setOf listed anyDeeper firstRun lastRun inRun runStarts runEnds allDigits keyRefusal spelled listRefusal allOf entryRefusal idTile idRefusal
+unfolding tileRefusal maxZoom maxEntries keyFrom idOf levelStart parentRefusal gather boxRefusal wrongEdges boxLength hasBit those setOf listed anyDeeper firstRun lastRun inRun runStarts runEnds allDigits keyRefusal spelled
 plates key-213 = refl
 plates id-2659 = refl
 plates rmid-64 = refl
@@ -91,9 +89,9 @@ plates parent-2 = refl
 plates parent-3 = refl
 plates siblings = refl
 plates neighbours = refl
-plates kept-by-v1 = answers _ _ _ refl v1-keeps-both
-plates kept-by-simplify = answers _ _ _ refl simplify-keeps-one
-plates empty-list = answers _ _ _ refl empty-settles
+plates kept-by-v1 = answers _ _ _ both-accepted v1-keeps-both
+plates kept-by-simplify = answers _ _ _ both-accepted simplify-keeps-one
+plates empty-list = answers _ _ _ none-accepted empty-settles
 plates whole-zoom = refl
 plates set-33 = refl
 plates turned-set = refl

@@ -54,7 +54,7 @@ fn beside() {
 
 // A tile and its first child, with the tile's own zoom as the minimum.
 fn kept() {
-    let tiles = [1u64, 2];
+    let tiles = tile_and_child();
     say(b"keys");
     say_keys(&tiles, 2);
     say(b" at minimum zoom 1: simplify_v1 keeps");
@@ -65,6 +65,10 @@ fn kept() {
     let k = written(merge::simplify(&tiles, OptionU8::Some(1), &mut list));
     say_keys(&list, k);
     say(b"\n");
+}
+
+fn tile_and_child() -> [u64; 2] {
+    [ids::entry(0, 0, 1), ids::entry(0, 0, 2)]
 }
 
 fn empty() {

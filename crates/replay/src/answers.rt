@@ -6,7 +6,7 @@ use errors::U32Answer;
 use errors::U64Answer;
 use tile::TileAnswer;
 
-// What lent memory is filled with before a call: no tile's number, no zoom and no digit, and not 0.
+// What lent bytes are filled with before a call: no zoom and no digit, and not 0. Of lists of tiles it is `entries::BLANK`.
 pub const BLANK: u8 = 191;
 
 // Whether the list says that the call is accepted, with these values.
@@ -81,20 +81,6 @@ pub fn same_bytes(answer: Count, out: &[u8], want: &[u64]) -> bool {
     let mut i = 0;
     while i < out.len() {
         if wide(out[i]) != value(want, i + 1) {
-            return false;
-        }
-        i += 1;
-    }
-    true
-}
-
-pub fn same_numbers(answer: Count, out: &[u64], want: &[u64]) -> bool {
-    if !same_count(answer, out.len(), want) {
-        return false;
-    }
-    let mut i = 0;
-    while i < out.len() {
-        if out[i] != value(want, i + 1) {
             return false;
         }
         i += 1;

@@ -3,6 +3,7 @@
 pub mod answers;
 pub mod args;
 pub mod calls;
+pub mod entries;
 pub mod lines;
 pub mod lists;
 pub mod parse;

@@ -2,9 +2,10 @@
 // that it left, is not what the list says.
 use errors::Count;
 use replay::answers;
-use replay::answers::BLANK;
 use replay::calls;
 use replay::calls::Call;
+use replay::entries;
+use replay::entries::BLANK;
 use replay::lists;
 use replay::parts;
 use tile::OptionU8;
@@ -128,7 +129,12 @@ fn is_settled(given: &[u64], want: &[u64]) -> bool {
     if given[0] != n as u64 {
         return false;
     }
-    answers::same_told(settled::is_settled(parts::numbers(given, 1, n)), want)
+    if n > ROOM {
+        return false;
+    }
+    let mut room = [0u64; ROOM];
+    entries::fill(parts::numbers(given, 1, n), &mut room);
+    answers::same_told(settled::is_settled(parts::numbers(&room, 0, n)), want)
 }
 
 fn work_of(name: &[u8]) -> WorkArg {
@@ -167,16 +173,19 @@ fn play_call(
     if b.count > ROOM {
         return wrong;
     }
-    if given.len() == 0 {
+    if given.len() == 0 || given.len() > ROOM {
         return wrong;
     }
     let places = given[0];
     if places > ROOM as u64 {
         return wrong;
     }
-    let mut room = [BLANK as u64; ROOM];
+    // Whatever in the line is an operand's tile stands in its place here as an entry.
+    let mut own = [0u64; ROOM];
+    entries::fill(given, &mut own);
+    let mut room = [BLANK; ROOM];
     let out = &mut room[..places as usize];
-    let answer = answered(work, a, b, given, kept, out);
+    let answer = answered(work, a, b, &own, kept, out);
     let same = lists::same_list(answer, cleared(work, a.count + b.count), out, want);
     keep(same, answer, out, build, kept)
 }
@@ -197,12 +206,12 @@ fn answered<'a>(
     work: Work,
     a: Operand,
     b: Operand,
-    given: &'a [u64],
+    own: &'a [u64],
     kept: &'a [u64],
     out: &mut [u64],
 ) -> Count {
-    let first = entries(a, given, kept);
-    let second = entries(b, given, kept);
+    let first = handed_in(a, own, kept);
+    let second = handed_in(b, own, kept);
     match work {
         Work::Simplify => merge::simplify(first, OptionU8::Some(0), out),
         Work::Union => area::union(first, second, out),
@@ -293,9 +302,9 @@ fn bad() -> Operand {
     }
 }
 
-fn entries<'a>(operand: Operand, given: &'a [u64], kept: &'a [u64]) -> &'a [u64] {
+fn handed_in<'a>(operand: Operand, own: &'a [u64], kept: &'a [u64]) -> &'a [u64] {
     if operand.own {
-        return parts::numbers(given, operand.from, operand.count);
+        return parts::numbers(own, operand.from, operand.count);
     }
     parts::numbers(kept, operand.from, operand.count)
 }

@@ -3,13 +3,14 @@
 use fns::LimitsAnswer;
 use ids::OffsetZoomAnswer;
 use replay::answers;
-use replay::answers::BLANK;
 use replay::args;
 use replay::args::ByteArg;
 use replay::args::OptionArg;
 use replay::args::TileArg;
 use replay::args::U32Arg;
 use replay::calls;
+use replay::entries::BLANK;
+use replay::lists;
 use tile::Tile;
 
 fn main() {
@@ -135,22 +136,22 @@ fn of_tile(name: &[u8], t: Tile, want: &[u64]) -> bool {
 
 // The calls that list a few tiles.
 fn beside(name: &[u8], t: Tile, want: &[u64]) -> bool {
-    let mut out = [BLANK as u64; 64];
+    let mut out = [BLANK; 64];
     if check::same(name, b"children1_zorder") {
         let answer = children::children1_zorder(t.x, t.y, t.z, &mut out);
-        return answers::same_numbers(answer, &out, want);
+        return lists::same_list(answer, 0, &out, want);
     }
     if check::same(name, b"siblings") {
         let answer = neighbors::siblings(t.x, t.y, t.z, &mut out);
-        return answers::same_numbers(answer, &out, want);
+        return lists::same_list(answer, 0, &out, want);
     }
     if check::same(name, b"neighbors") {
         let answer = neighbors::neighbors(t.x, t.y, t.z, &mut out);
-        return answers::same_numbers(answer, &out, want);
+        return lists::same_list(answer, 0, &out, want);
     }
     if check::same(name, b"neighbors_wrap_x") {
         let answer = neighbors::neighbors_wrap_x(t.x, t.y, t.z, &mut out);
-        return answers::same_numbers(answer, &out, want);
+        return lists::same_list(answer, 0, &out, want);
     }
     false
 }
@@ -163,14 +164,14 @@ fn of_tile_and_zooms(name: &[u8], t: Tile, given: &[u64], want: &[u64]) -> bool 
     if check::same(name, b"parent") {
         return answers::same_tile(fns::parent(t.x, t.y, t.z, n), want);
     }
-    let mut out = [BLANK as u64; 320];
+    let mut out = [BLANK; 320];
     if check::same(name, b"children") {
         let answer = children::children(t.x, t.y, t.z, n, &mut out);
-        return answers::same_numbers(answer, &out, want);
+        return lists::same_list(answer, 0, &out, want);
     }
     if check::same(name, b"children_zorder") {
         let answer = children::children_zorder(t.x, t.y, t.z, n, &mut out);
-        return answers::same_numbers(answer, &out, want);
+        return lists::same_list(answer, 0, &out, want);
     }
     false
 }

@@ -1,10 +1,11 @@
 // Replays the calls of `merge`: prints each line whose answer, or the memory that it left, is not the Rust's.
 use merge::MergeAnswer;
 use replay::answers;
-use replay::answers::BLANK;
 use replay::args;
 use replay::args::OptionArg;
 use replay::calls;
+use replay::entries;
+use replay::entries::BLANK;
 use replay::lists;
 use replay::parts;
 use tile::OptionU8;
@@ -46,9 +47,11 @@ fn replayed(name: &[u8], given: &[u64], want: &[u64]) -> bool {
     if places > ROOM as u64 {
         return false;
     }
-    let mut room = [BLANK as u64; ROOM];
+    let mut tiles = [0u64; ROOM];
+    entries::fill(parts::numbers(given, 3, n), &mut tiles);
+    let mut room = [BLANK; ROOM];
     let out = &mut room[..places as usize];
-    of_tiles(name, parts::numbers(given, 3, n), m, out, want)
+    of_tiles(name, parts::numbers(&tiles, 0, n), m, out, want)
 }
 
 fn of_tiles(name: &[u8], tiles: &[u64], m: OptionU8, out: &mut [u64], want: &[u64]) -> bool {

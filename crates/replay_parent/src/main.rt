@@ -1,16 +1,16 @@
 // Replays the calls of `parent`: prints each line whose answer is not the Rust's.
 use errors::Count;
-use errors::U64Answer;
 use parent::NextAnswer;
 use parent::OptionTile;
 use parent::Parents;
 use parent::ParentsAnswer;
 use replay::answers;
-use replay::answers::BLANK;
 use replay::args;
 use replay::args::TileArg;
 use replay::calls;
-use tile::Tile;
+use replay::entries;
+use replay::entries::BLANK;
+use replay::lists;
 
 fn main() {
     let mut text = io::large_buffer();
@@ -53,7 +53,7 @@ fn iter_parents(given: &[u64], want: &[u64]) -> bool {
 
 // The cursor is run to its end. There are more places than zooms.
 fn walked(parents: Parents, want: &[u64]) -> bool {
-    let mut out = [BLANK as u64; 64];
+    let mut out = [BLANK; 64];
     let mut cursor = parents;
     let mut n = 0;
     while n < 64 {
@@ -62,19 +62,11 @@ fn walked(parents: Parents, want: &[u64]) -> bool {
         };
         let given = next.tile;
         let OptionTile::Some(t) = given else {
-            return answers::same_numbers(Count::Counted(n), &out, want);
+            return lists::same_list(Count::Counted(n), 0, &out, want);
         };
-        out[n] = listed(t);
+        out[n] = entries::of_tile(t);
         cursor = next.rest;
         n += 1;
     }
     false
-}
-
-// The tile's number; `BLANK`, which is no tile's, off the map.
-fn listed(t: Tile) -> u64 {
-    match ids::to_id(t.x, t.y, t.z) {
-        U64Answer::Number(id) => id,
-        U64Answer::Refused(_) => BLANK as u64,
-    }
 }

@@ -2,14 +2,15 @@
 use errors::Count;
 use errors::U64Answer;
 use replay::answers;
-use replay::answers::BLANK;
 use replay::args;
 use replay::args::ByteArg;
 use replay::args::TileArg;
 use replay::args::U32Arg;
 use replay::calls;
+use replay::entries;
+use replay::entries::BLANK;
+use replay::lists;
 use replay::parts;
-use tile::Tile;
 use tile_zbox::BoxAnswer;
 use tile_zbox::ExtentAnswer;
 use tile_zbox::NextAnswer;
@@ -88,7 +89,12 @@ fn from_tiles(given: &[u64], want: &[u64]) -> bool {
     if given[0] != n as u64 {
         return false;
     }
-    same_box(TileZBox::from_tiles(parts::numbers(given, 1, n)), want)
+    if n > 64 {
+        return false;
+    }
+    let mut room = [0u64; 64];
+    entries::fill(parts::numbers(given, 1, n), &mut room);
+    same_box(TileZBox::from_tiles(parts::numbers(&room, 0, n)), want)
 }
 
 // The count of the boxes, then five numbers of each: they are summed as numbers, and as records.
@@ -180,17 +186,17 @@ fn of_box(name: &[u8], b: TileZBox, want: &[u64]) -> bool {
 
 // The cursor is run to its end. The lists' boxes have fewer tiles than there are places.
 fn iter(b: TileZBox, want: &[u64]) -> bool {
-    let mut out = [BLANK as u64; 64];
+    let mut out = [BLANK; 64];
     let mut cursor = TileZBoxIterator::from(b);
     let mut n = 0;
     while n < 64 {
         match cursor.next() {
             NextAnswer::Given(t, rest) => {
-                out[n] = listed(t);
+                out[n] = entries::of_tile(t);
                 cursor = rest;
             }
             NextAnswer::End(_) => {
-                return answers::same_numbers(Count::Counted(n), &out, want);
+                return lists::same_list(Count::Counted(n), 0, &out, want);
             }
             NextAnswer::Refused(why) => {
                 return answers::refused(why, 1, want);
@@ -199,14 +205,6 @@ fn iter(b: TileZBox, want: &[u64]) -> bool {
         n += 1;
     }
     false
-}
-
-// The tile's number; `BLANK`, which is no tile's, off the map.
-fn listed(t: Tile) -> u64 {
-    match ids::to_id(t.x, t.y, t.z) {
-        U64Answer::Number(id) => id,
-        U64Answer::Refused(_) => BLANK as u64,
-    }
 }
 
 fn zoom_depth(b: TileZBox, given: &[u64], want: &[u64]) -> bool {

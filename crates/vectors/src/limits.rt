@@ -25,7 +25,7 @@ fn read(answer: TileAnswer) -> Text {
 
 // Lists of nothing but the root.
 pub fn lists(before: Tally) -> Tally {
-    let tiles = [0u64; 65537];
+    let tiles = [root(); 65537];
     let mut list = [0u64; 65537];
     tally::asked(b"65536 entries");
     let most = merge::simplify(&tiles[..65536], OptionU8::None, &mut list);
@@ -33,6 +33,10 @@ pub fn lists(before: Tally) -> Tally {
     tally::asked(b"65537 entries");
     let more = merge::simplify(&tiles, OptionU8::None, &mut list);
     tally::told(t, b"refusal 6", settled(more))
+}
+
+fn root() -> u64 {
+    ids::entry(0, 0, 0)
 }
 
 fn settled(answer: Count) -> Text {

@@ -34,14 +34,20 @@ shared-slice-read-places c = search needs
 returns-5 : tie.Need-returns-5
 returns-5 c = search needs
 
-cast-room : tie.Need-cast-room
-cast-room c = search needs
+slice-aggregate-fill : tie.Need-slice-aggregate-fill
+slice-aggregate-fill c = search needs
+
+fill-requires : tie.Need-fill-requires
+fill-requires c κs = search needs
 
 array-borrow-prefix-room : tie.Need-array-borrow-prefix-room
 array-borrow-prefix-room c = search needs
 
 slice-aggregate-out : tie.Need-slice-aggregate-out
-slice-aggregate-out c = sym (length-take-le _ (replicate 512 191) (omega arith))
+slice-aggregate-out c = sym (length-take-le _ (replicate 512 _) (omega arith))
+
+slice-aggregate-answered : tie.Need-slice-aggregate-answered
+slice-aggregate-answered c = search needs
 
 answered-requires : tie.Need-answered-requires
 answered-requires c κs = search needs
@@ -74,9 +80,11 @@ play-call-spec =
     returns-4
     shared-slice-read-places
     returns-5
-    cast-room
+    slice-aggregate-fill
+    fill-requires
     array-borrow-prefix-room
     slice-aggregate-out
+    slice-aggregate-answered
     answered-requires
     add-cleared
     cleared-requires

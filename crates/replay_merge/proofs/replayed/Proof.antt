@@ -37,17 +37,26 @@ shared-slice-read-places c = search needs
 returns-4 : tie.Need-returns-4
 returns-4 c = search needs
 
-cast-room : tie.Need-cast-room
-cast-room c = search needs
+numbers-requires : tie.Need-numbers-requires
+numbers-requires c κs = search needs
+
+slice-aggregate-fill : tie.Need-slice-aggregate-fill
+slice-aggregate-fill c = search needs
+
+fill-requires : tie.Need-fill-requires
+fill-requires c κs = search needs
 
 array-borrow-prefix-room : tie.Need-array-borrow-prefix-room
 array-borrow-prefix-room c = search needs
 
 slice-aggregate-out : tie.Need-slice-aggregate-out
-slice-aggregate-out c = sym (length-take-le _ (replicate 512 191) (omega arith))
+slice-aggregate-out c = sym (length-take-le _ (replicate 512 _) (omega arith))
 
-numbers-requires : tie.Need-numbers-requires
-numbers-requires c κs = search needs
+slice-aggregate-numbers : tie.Need-slice-aggregate-numbers
+slice-aggregate-numbers c = search needs
+
+numbers-requires-2 : tie.Need-numbers-requires-2
+numbers-requires-2 c κs = search needs
 
 of-tiles-requires : tie.Need-of-tiles-requires
 of-tiles-requires c κs = search needs
@@ -69,9 +78,12 @@ replayed-spec =
     returns-3
     shared-slice-read-places
     returns-4
-    cast-room
+    numbers-requires
+    slice-aggregate-fill
+    fill-requires
     array-borrow-prefix-room
     slice-aggregate-out
-    numbers-requires
+    slice-aggregate-numbers
+    numbers-requires-2
     of-tiles-requires
     returns-5)

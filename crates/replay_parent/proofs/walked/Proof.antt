@@ -12,9 +12,6 @@ Inv-loop want out₀ cursor₀ n₀ out cursor n = length out ≡ 64
 abbrev μ-loop : tie.MeasureT-loop
 μ-loop want out₀ cursor₀ n₀ out cursor n = 64 - n
 
-cast-out : tie.Need-cast-out Inv-loop μ-loop
-cast-out c = search needs
-
 loop-holds : tie.Need-loop-holds Inv-loop μ-loop
 loop-holds c = search needs
 
@@ -36,17 +33,17 @@ enum-known-given c = search needs
 enum-told-2 : tie.Need-enum-told-2 Inv-loop μ-loop
 enum-told-2 c = search needs
 
-slice-aggregate-same-numbers : tie.Need-slice-aggregate-same-numbers Inv-loop μ-loop
-slice-aggregate-same-numbers c = search needs
+slice-aggregate-same-list : tie.Need-slice-aggregate-same-list Inv-loop μ-loop
+slice-aggregate-same-list c = search needs
 
-same-numbers-requires : tie.Need-same-numbers-requires Inv-loop μ-loop
-same-numbers-requires c κs = search needs
+same-list-requires : tie.Need-same-list-requires Inv-loop μ-loop
+same-list-requires c κs = search needs
 
 returns-2 : tie.Need-returns-2 Inv-loop μ-loop
 returns-2 c = search needs
 
-listed-requires : tie.Need-listed-requires Inv-loop μ-loop
-listed-requires c κs = search needs
+of-tile-requires : tie.Need-of-tile-requires Inv-loop μ-loop
+of-tile-requires c κs = search needs
 
 mul-out : tie.Need-mul-out Inv-loop μ-loop
 mul-out c = search needs
@@ -72,7 +69,6 @@ walked-spec =
     (tie.spec
     Inv-loop
     μ-loop
-    cast-out
     loop-holds
     next-requires
     enum-known-next
@@ -80,10 +76,10 @@ walked-spec =
     returns
     enum-known-given
     enum-told-2
-    slice-aggregate-same-numbers
-    same-numbers-requires
+    slice-aggregate-same-list
+    same-list-requires
     returns-2
-    listed-requires
+    of-tile-requires
     mul-out
     array-write-out
     add-n

@@ -12,9 +12,6 @@ Inv-loop want out₀ cursor₀ n₀ out cursor n = length out ≡ 64
 abbrev μ-loop : tie.MeasureT-loop
 μ-loop want out₀ cursor₀ n₀ out cursor n = 64 - n
 
-cast-out : tie.Need-cast-out Inv-loop μ-loop
-cast-out c = search needs
-
 from-requires : tie.Need-from-requires Inv-loop μ-loop
 from-requires c κs = search needs
 
@@ -27,8 +24,8 @@ next-requires c κs = search needs
 enum-known-t : tie.Need-enum-known-t Inv-loop μ-loop
 enum-known-t c = search needs
 
-listed-requires : tie.Need-listed-requires Inv-loop μ-loop
-listed-requires c κs = search needs
+of-tile-requires : tie.Need-of-tile-requires Inv-loop μ-loop
+of-tile-requires c κs = search needs
 
 mul-out : tie.Need-mul-out Inv-loop μ-loop
 mul-out c = search needs
@@ -39,11 +36,11 @@ array-write-out c = search needs
 enum-told : tie.Need-enum-told Inv-loop μ-loop
 enum-told c = search needs
 
-slice-aggregate-same-numbers : tie.Need-slice-aggregate-same-numbers Inv-loop μ-loop
-slice-aggregate-same-numbers c = search needs
+slice-aggregate-same-list : tie.Need-slice-aggregate-same-list Inv-loop μ-loop
+slice-aggregate-same-list c = search needs
 
-same-numbers-requires : tie.Need-same-numbers-requires Inv-loop μ-loop
-same-numbers-requires c κs = search needs
+same-list-requires : tie.Need-same-list-requires Inv-loop μ-loop
+same-list-requires c κs = search needs
 
 returns : tie.Need-returns Inv-loop μ-loop
 returns c = search needs
@@ -75,17 +72,16 @@ iter-spec =
     (tie.spec
     Inv-loop
     μ-loop
-    cast-out
     from-requires
     loop-holds
     next-requires
     enum-known-t
-    listed-requires
+    of-tile-requires
     mul-out
     array-write-out
     enum-told
-    slice-aggregate-same-numbers
-    same-numbers-requires
+    slice-aggregate-same-list
+    same-list-requires
     returns
     enum-known-why
     refused-requires
