@@ -5,7 +5,9 @@ use crate::text;
 use crate::text::Text;
 use errors::BoolAnswer;
 use errors::Count;
-use replay::answers::BLANK;
+use errors::U64Answer;
+use replay::entries;
+use replay::entries::BLANK;
 use replay::lists;
 use replay::parts;
 
@@ -22,26 +24,36 @@ pub fn lists(before: Tally) -> Tally {
     tally::source(
         b"Document 01, Refusals: 6 over 65,536 entries; a refusal leaves lent memory unchanged",
     );
-    let row = settled_row();
-    called(before, &row)
+    let named = settled_row();
+    let mut row = [0; 65537];
+    entries::fill(&named, &mut row);
+    called(before, &named, &row)
 }
 
-// Tiles of the top row of zoom 17, from the left on: a settled list, since of four siblings it has two at most.
+// Tiles of the top row of zoom 17, from the left on, by their `to_id` numbers: a settled list, since of four siblings it has two at most.
 fn settled_row() -> [u64; 65537] {
-    let mut row = [0; 65537];
+    let mut named = [0; 65537];
     let mut x = 0;
     while x < 65537 {
-        row[x] = ids::entry(x as u32, 0, 17);
+        named[x] = in_the_top_row(x as u32);
         x += 1;
     }
-    row
+    named
 }
 
-fn called(before: Tally, more: &[u64]) -> Tally {
+fn in_the_top_row(x: u32) -> u64 {
+    match ids::to_id(x, 0, 17) {
+        U64Answer::Number(id) => id,
+        U64Answer::Refused(_) => BLANK,
+    }
+}
+
+fn called(before: Tally, named: &[u64], more: &[u64]) -> Tally {
     let most = parts::numbers(more, 0, 65536);
-    let mut t = longest(before, b"union", Work::Union, most, most, 131072);
+    let same = parts::numbers(named, 0, 65536);
+    let mut t = longest(before, b"union", Work::Union, most, same, 131072);
     t = too_long(t, b"union", Work::Union, more);
-    t = longest(t, b"common part", Work::CommonPart, most, most, 131072);
+    t = longest(t, b"common part", Work::CommonPart, most, same, 131072);
     t = too_long(t, b"common part", Work::CommonPart, more);
     t = longest(t, b"difference", Work::Difference, most, &[], 0);
     t = too_long(t, b"difference", Work::Difference, more);
@@ -51,7 +63,7 @@ fn called(before: Tally, more: &[u64]) -> Tally {
     tally::told(t, b"refusal 6", tested(settled::is_settled(more)))
 }
 
-// A list with itself, both as long as can be. These entries are to be left, then 0 up to n places.
+// A list with itself, both as long as can be. These tiles are to be left, then 0 up to n places.
 fn longest(t: Tally, name: &[u8], work: Work, most: &[u64], left: &[u64], n: usize) -> Tally {
     asked(name, b" of 65536 and 65536 entries");
     let says = text::number(text::none(), left.len() as u64);
@@ -72,9 +84,9 @@ fn asked(name: &[u8], of: &[u8]) {
     io::write_all(1, of);
 }
 
-// What the call says, and whether the lent memory, blank before it, holds these entries, then 0 up to n places.
+// What the call says, and whether the lent memory, blank before it, holds these tiles' entries, then 0 up to n places.
 fn worked(work: Work, a: &[u64], b: &[u64], left: &[u64], n: usize) -> Text {
-    let mut out = [BLANK as u64; ROOM];
+    let mut out = [BLANK; ROOM];
     let answer = answered(work, a, b, &mut out);
     memory(
         text::of_count(text::none(), answer),
