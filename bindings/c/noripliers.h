@@ -660,9 +660,9 @@ NORI_NODISCARD uint8_t nori_form_answer(const uint8_t *line, size_t line_length,
 
 /* Takes in a chunk of the input behind a line of which line holds len bytes, 0 at first, and
  * writes the answers of the lines that end in it, each with its newline. next bytes of the chunk
- * are taken in, line holds kept bytes of the line so far, and filled bytes are written. For want
- * of room it may take in less than the chunk, but some of it where out has 32 * NORI_FORM_PLACES
- * places.
+ * are taken in, line holds kept bytes of the line so far, and filled bytes are written. It stops
+ * before the first newline whose answer has no room, but takes in some of the chunk where out
+ * has 32 * NORI_FORM_PLACES places.
  * Never refused. */
 NORI_NODISCARD uint8_t nori_form_feed(const uint8_t *chunk, size_t chunk_length,
                                       uint8_t *line /* NORI_KEPT places */, size_t len,

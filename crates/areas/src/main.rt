@@ -1,63 +1,109 @@
 // Reads form lines from standard input and prints what each area is: its count and its keys, or the refusal.
 use errors::Count;
+use form_stream::Feeding;
 use form_stream::KEPT;
+use libc::STDERR_FILENO;
 use libc::STDIN_FILENO;
 use libc::STDOUT_FILENO;
 ghost use mathlib.Core.Path.{_≡_};
-ghost use Prim.Native.Nat.{_<_};
-ghost use lib.ListN.{length};
+ghost use Prim.Native.Nat.{suc, _<_};
+ghost use lib.ListN.{length, take};
+ghost use Rattle.areas.specs.LineSoFar.{Keeps};
+ghost use Rattle.constants.specs.Limits.{maxLine};
 ghost use Rattle.form_line.specs.Longest.{longest};
 
-// How many bytes of the line so far are kept, or that nothing more can be written.
+// How far the input is taken in, or that nothing more can be written.
 enum Line {
-    So(usize),
+    So(Feeding),
     Unwritten,
 }
 
 fn main() {
+    if os::arg_count() > 1 {
+        io::write_all(STDERR_FILENO, b"usage: areas < FORMS\n");
+        return;
+    }
     let mut chunk = io::large_buffer();
     let mut out = io::large_buffer();
     let mut line = [0u8; KEPT];
-    let mut len = 0;
+    let mut feeding = Feeding { at: 0, len: 0 };
     // The input ends long before the turns do.
     let mut turns = u64::MAX;
     while turns > 0 {
         turns -= 1;
-        let got = io::count(libc::read(STDIN_FILENO, &mut chunk), &chunk);
-        if got == 0 {
-            end(&line, len, &mut out);
-            return;
-        }
-        match take_in(&chunk[..got], &mut line, len, &mut out) {
-            Line::So(n) => len = n,
-            Line::Unwritten => return,
+        let got = libc::read(STDIN_FILENO, &mut chunk);
+        if got < 0 {
+            if !again() {
+                os::fail(b"areas: standard input");
+                return;
+            }
+        } else {
+            let n = io::count(got, &chunk);
+            if n == 0 {
+                end(&line, feeding, &mut out);
+                return;
+            }
+            match take_in(&chunk[..n], feeding, &mut line, &mut out) {
+                Line::So(f) => feeding = f,
+                Line::Unwritten => return,
+            }
         }
     }
 }
 
-fn take_in(chunk: &[u8], line: &mut [u8; KEPT], len: usize, out: &mut [u8]) -> Line
-    requires { ⌜ longest < length (now out) ⌝ }
-    ensures { λ _. ⌜ length (now (out .exit)) ≡ length (now (out .entry)) ⌝ }
+fn take_in(chunk: &[u8], feeding: Feeding, line: &mut [u8; KEPT], out: &mut [u8]) -> Line
+    requires { ⌜ (longest < length (now out)) × (length (now line) ≡ suc maxLine) ⌝ }
+    ensures { λ r. ⌜ (length (now (out .exit)) ≡ length (now (out .entry))) × (length (now (line .exit)) ≡ suc maxLine) × Keeps (now (chunk .entry)) (take (feeding .len) (now (line .entry))) (now (line .exit)) r ⌝ }
 {
-    let mut held = len;
-    let mut at = 0;
-    while at < chunk.len() {
-        let fed = form_stream::feed(&chunk[at..], line, held, out);
+    let mut so_far = form_stream::next_chunk(feeding);
+    while so_far.at < chunk.len() {
+        let fed = form_stream::feed(chunk, so_far, line, out);
         let filled = fed.filled;
-        if !io::write_all(STDOUT_FILENO, &out[..filled]) {
+        if !write(&out[..filled]) {
             return Line::Unwritten;
         }
-        held = fed.len;
-        at += fed.next;
+        let next = fed.feeding;
+        so_far = next;
     }
-    Line::So(held)
+    Line::So(so_far)
 }
 
-fn end(line: &[u8; KEPT], len: usize, out: &mut [u8]) {
-    match form_stream::finish(line, len, out) {
+fn end(line: &[u8; KEPT], feeding: Feeding, out: &mut [u8]) {
+    match form_stream::finish(line, feeding.len, out) {
         Count::Counted(n) => {
-            io::write_all(STDOUT_FILENO, &out[..n]);
+            write(&out[..n]);
         }
         Count::Refused(_) => {}
     }
+}
+
+// Writes all of the bytes and answers true, or says on standard error what failed.
+fn write(bytes: &[u8]) -> bool {
+    let mut done = 0;
+    let mut turns = u64::MAX;
+    while turns > 0 {
+        turns -= 1;
+        if done == bytes.len() {
+            return true;
+        }
+        let left = &bytes[done..];
+        let put = libc::write(STDOUT_FILENO, left);
+        if put >= 0 {
+            done += io::count(put, left);
+        } else if !again() {
+            os::fail(b"areas: standard output");
+            return false;
+        }
+    }
+    false
+}
+
+// Whether a call that failed is to be tried again: a signal interrupted it, or it would have had to wait, and then after a while.
+fn again() -> bool {
+    let error = os::errno();
+    if error == libc::EAGAIN {
+        libc::sched_yield();
+        return true;
+    }
+    error == libc::EINTR
 }

@@ -1,4 +1,6 @@
 pub mod Stream
 pub mod Long
-pub mod Feeding
+pub mod Scan
+pub mod Scanned
+pub mod Steps
 pub mod Theorems

@@ -27,3 +27,13 @@ last-replied (b ∷ bs) h = refl
 unfoldable pub said : List ℕ → List ℕ → List ℕ
 said line [] = lastReply line
 said line (b ∷ rest) = cond (eqb b newline) (reply line ++ said [] rest) (said (line ++ (b ∷ [])) rest)
+
+-- of that, the answers of the lines that end in a chunk
+unfoldable pub ended : List ℕ → List ℕ → List ℕ
+ended line [] = []
+ended line (b ∷ rest) = cond (eqb b newline) (reply line ++ ended [] rest) (ended (line ++ (b ∷ [])) rest)
+
+-- and the line so far behind it
+unfoldable pub soFar : List ℕ → List ℕ → List ℕ
+soFar line [] = line
+soFar line (b ∷ rest) = cond (eqb b newline) (soFar [] rest) (soFar (line ++ (b ∷ [])) rest)

@@ -5,35 +5,45 @@ use errors::Refusal;
 ghost use mathlib.Core.Path.{_≡_};
 ghost use mathlib.Core.List.{[]};
 ghost use Prim.Native.Nat.{suc, _≤_, min};
-ghost use lib.ListN.{length, take};
+ghost use lib.ListN.{length, take, drop, set};
 ghost use Rattle.constants.specs.Limits.{maxLine};
 ghost use Rattle.errors.specs.Answer.{written};
 ghost use Rattle.errors.specs.Cases.{left};
-ghost use Rattle.form_stream.specs.Feeding.{Keeps, Takes, Ends, Feeds};
+ghost use Rattle.form_stream.specs.Scan.{scanAt, scan, feedOf, scanOf};
+ghost use Rattle.form_stream.specs.Steps.{Takes, Ends};
 ghost use Rattle.form_stream.specs.Stream.{said, reply as Stream·reply};
 
 // How many bytes of a line are kept: one more than a line may have.
 pub const KEPT: usize = MAX_LINE + 1;
 
-// How far the input was taken in: so many bytes of the chunk, of the current line and of the answers.
-pub struct Fed {
-    pub next: usize,
+// How far the input is taken in: so many bytes of the chunk, and so many of the line so far are kept.
+pub struct Feeding {
+    pub at: usize,
     pub len: usize,
+}
+
+// How far the input is taken in after a call, and how many bytes it wrote.
+pub struct Fed {
+    pub feeding: Feeding,
     pub filled: usize,
 }
 
-// Where a line ends in a chunk, or the chunk does, and how many bytes of the line are kept.
-struct Taken {
-    at: usize,
-    len: usize,
+// A chunk of the input, from where it is taken in to, behind the line so far: what is to be printed goes to `out`, as far as there is
+// room for it. Until the chunk is used up, `feeding` is what the call before handed back.
+pub fn feed(chunk: &[u8], feeding: Feeding, line: &mut [u8; KEPT], out: &mut [u8]) -> Fed
+    ensures { λ r. ⌜ scanOf r (now (line .exit)) (now (out .exit)) ≡ feedOf (now (chunk .entry)) (feeding .at) (feeding .len) (now (line .entry)) (now (out .entry)) ⌝ }
+{
+    feed_lines(chunk, feeding.at, line, least(feeding.len, KEPT), out)
 }
 
-// A chunk of the input behind a line so far, of which `len` bytes are kept: what is to be printed goes to `out`, as far as there is
-// room for it.
-pub fn feed(chunk: &[u8], line: &mut [u8; KEPT], len: usize, out: &mut [u8]) -> Fed
-    ensures { λ r. ⌜ Feeds (now (out .entry)) (now (chunk .entry)) (now (line .entry)) len (now (line .exit)) (now (out .exit)) r ⌝ }
+// Before the next chunk: nothing of it is taken in, and the line so far goes on.
+pub fn next_chunk(feeding: Feeding) -> Feeding
+    ensures { λ r. ⌜ (r .at ≡ 0) × (r .len ≡ feeding .len) ⌝ }
 {
-    feed_lines(chunk, line, least(len, KEPT), out)
+    Feeding {
+        at: 0,
+        len: feeding.len,
+    }
 }
 
 // The end of the input behind a line so far.
@@ -59,21 +69,20 @@ fn front(line: &[u8], n: usize) -> &[u8]
     &line[..n]
 }
 
-fn feed_lines(chunk: &[u8], line: &mut [u8], len: usize, out: &mut [u8]) -> Fed
+fn feed_lines(chunk: &[u8], from: usize, line: &mut [u8], len: usize, out: &mut [u8]) -> Fed
     requires { ⌜ (length (now line) ≡ suc maxLine) × (len ≤ length (now line)) ⌝ }
-    ensures { λ r. ⌜ Feeds (now (out .entry)) (now (chunk .entry)) (now (line .entry)) len (now (line .exit)) (now (out .exit)) r ⌝ }
+    ensures { λ r. ⌜ scanOf r (now (line .exit)) (now (out .exit)) ≡ scan (drop from (now (chunk .entry))) (scanAt from len 0 (now (line .entry)) (now (out .entry))) ⌝ }
 {
     let mut held = len;
     let mut filled = 0;
-    let mut i = 0;
+    let mut i = from;
     while i < chunk.len() {
         let taken = take_line(chunk, i, line, held);
         let at = taken.at;
         let n = taken.len;
         if at == chunk.len() {
             return Fed {
-                next: at,
-                len: n,
+                feeding: taken,
                 filled,
             };
         }
@@ -85,21 +94,20 @@ fn feed_lines(chunk: &[u8], line: &mut [u8], len: usize, out: &mut [u8]) -> Fed
             }
             Count::Refused(_) => {
                 return Fed {
-                    next: at,
-                    len: n,
+                    feeding: taken,
                     filled,
                 };
             }
         }
     }
     Fed {
-        next: i,
-        len: held,
+        feeding: Feeding { at: i, len: held },
         filled,
     }
 }
 
-fn take_line(chunk: &[u8], from: usize, line: &mut [u8], len: usize) -> Taken
+// The bytes of a chunk up to the end of a line, or of the chunk.
+fn take_line(chunk: &[u8], from: usize, line: &mut [u8], len: usize) -> Feeding
     requires { ⌜ from ≤ length (now chunk) ⌝ }
     requires { ⌜ (length (now line) ≡ suc maxLine) × (len ≤ length (now line)) ⌝ }
     ensures { λ r. ⌜ Takes (now (chunk .entry)) from (now (line .entry)) len (now (line .exit)) r × Ends (now (chunk .entry)) (r .at) ⌝ }
@@ -109,18 +117,18 @@ fn take_line(chunk: &[u8], from: usize, line: &mut [u8], len: usize) -> Taken
     while i < chunk.len() {
         let b = chunk[i];
         if b == b'\n' {
-            return Taken { at: i, len: n };
+            return Feeding { at: i, len: n };
         }
         n = keep(b, line, n);
         i += 1;
     }
-    Taken { at: i, len: n }
+    Feeding { at: i, len: n }
 }
 
 // A byte goes to the line, if the line is not too long already.
 fn keep(b: u8, line: &mut [u8], len: usize) -> usize
     requires { ⌜ (length (now line) ≡ suc maxLine) × (len ≤ length (now line)) ⌝ }
-    ensures { λ r. ⌜ Keeps b (now (line .entry)) len (now (line .exit)) r ⌝ }
+    ensures { λ r. ⌜ (r ≡ min (suc len) (suc maxLine)) × (now (line .exit) ≡ set (now (line .entry)) len b) ⌝ }
 {
     if len < line.len() {
         line[len] = b;

@@ -10,7 +10,6 @@ use Rattle.errors.specs.Answer.{Answer, Lent}
 use Rattle.errors.specs.Cases.{countCase, left}
 use Rattle.errors.specs.declared.Count.{Count}
 use Rattle.fns.specs.declared.Limits.{Limits}
-use Rattle.form_stream.specs.declared.Fed.{Fed}
 use Rattle.ids.specs.declared.OffsetZoom.{OffsetZoom}
 use Rattle.merge.specs.declared.Merged.{Merged}
 use Rattle.tile.specs.declared.Ordering.{Ordering}
@@ -61,9 +60,6 @@ offsetZoomAt offset zoom = record { offset = offset; zoom = zoom }
 
 abbrev pub boxesAt : BBox → BBox → ℕ → BBoxes
 boxesAt first second count = record { first = first; second = second; count = count }
-
-abbrev pub fedAt : ℕ → ℕ → ℕ → Fed
-fedAt next len filled = record { next = next; len = len; filled = filled }
 
 -- of a part of a key, how many bytes it has: it starts where the key does
 abbrev pub partLength : ℕ → (ℕ × ℕ) × List ℕ → Answer ℕ

@@ -1,6 +1,7 @@
 // Form lines, which the Rust does not have: what the program areas reads and prints. A form is (tiles K K ..), which settles
 // the tiles of keys, - for the root's, or (plus F F), (both F F) or (minus F F) of two forms. A line is without its newline.
 use crate::give;
+use form_stream::Feeding;
 use form_stream::KEPT;
 ghost use mathlib.Core.Path.{_≡_};
 ghost use mathlib.Core.List.{[]};
@@ -9,9 +10,9 @@ ghost use Rattle.errors.specs.Answer.{written};
 ghost use Rattle.form.specs.Reading.{lineRefusal};
 ghost use Rattle.form_area.specs.Area.{areaWritten};
 ghost use Rattle.form_line.specs.Line.{lineWritten};
-ghost use Rattle.form_stream.specs.Feeding.{Feeds};
+ghost use Rattle.form_stream.specs.Scan.{scanAt, feedOf};
 ghost use Rattle.form_stream.specs.Stream.{said};
-ghost use Rattle.noripliers.specs.Exported.{fedAt, given};
+ghost use Rattle.noripliers.specs.Exported.{given};
 
 // Whether a line is refused before any key is read: nothing but the number comes back.
 // Refused: 13, 14, 15.
@@ -46,8 +47,8 @@ pub extern "C" fn nori_form_answer(line: &[u8], out: &mut [u8], count: &mut u64)
 
 // Takes in a chunk of the input behind a line of which line holds len bytes, 0 at first, and writes the answers of the lines that
 // end in it, each with its newline. next bytes of the chunk are taken in, line holds kept bytes of the line so far, and filled
-// bytes are written. For want of room it may take in less than the chunk, but some of it where out has 32 * NORI_FORM_PLACES
-// places.
+// bytes are written. It stops before the first newline whose answer has no room, but takes in some of the chunk where out has
+// 32 * NORI_FORM_PLACES places.
 // Never refused.
 #[no_mangle]
 pub extern "C" fn nori_form_feed(
@@ -59,11 +60,12 @@ pub extern "C" fn nori_form_feed(
     kept: &mut u64,
     filled: &mut u64,
 ) -> u8
-    ensures { λ r. ⌜ (r ≡ 0) × Feeds (now (out .entry)) (now (chunk .entry)) (now (line .entry)) len (now (line .exit)) (now (out .exit)) (fedAt (now (next .exit)) (now (kept .exit)) (now (filled .exit))) ⌝ }
+    ensures { λ r. ⌜ (r ≡ 0) × (scanAt (now (next .exit)) (now (kept .exit)) (now (filled .exit)) (now (line .exit)) (now (out .exit)) ≡ feedOf (now (chunk .entry)) 0 len (now (line .entry)) (now (out .entry))) ⌝ }
 {
-    let fed = form_stream::feed(chunk, line, len, out);
-    *next = fed.next as u64;
-    *kept = fed.len as u64;
+    let fed = form_stream::feed(chunk, Feeding { at: 0, len }, line, out);
+    let feeding = fed.feeding;
+    *next = feeding.at as u64;
+    *kept = feeding.len as u64;
     *filled = fed.filled as u64;
     0
 }

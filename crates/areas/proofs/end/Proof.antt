@@ -23,20 +23,20 @@ enum-known-n c = search needs
 within : {n : ℕ} (c : tie.After-finish) → c .finish .result ≡ Counted n → n ≤ length (c .finish .last .1 .1 .0)
 within c e =
     let a = c .before .before .before .args in
-    let last = said (take (a .len) (a .line .now)) [] in
+    let last = said (take (a .feeding .len) (a .line .now)) [] in
     written-within last (a .out .now) (c .finish .last .1 .1 .0) refl
     (subst (λ (r : Count). left r (c .finish .last .1 .1 .0) ≡ written 0 last (a .out .now)) e (c .finish .ensures))
 
-slice-reshare-prefix-write-all : tie.Need-slice-reshare-prefix-write-all
-slice-reshare-prefix-write-all c = within (c .before .before .before .before .before) (c .before .n .given .1)
+slice-reshare-prefix-write : tie.Need-slice-reshare-prefix-write
+slice-reshare-prefix-write c = within (c .before .before .before .before .before) (c .before .n .given .1)
 
-slice-aggregate-write-all : tie.Need-slice-aggregate-write-all
-slice-aggregate-write-all c =
+slice-aggregate-write : tie.Need-slice-aggregate-write
+slice-aggregate-write c =
     let f = c .before .before .before .before .before .before in
     sym (length-take-le _ (f .finish .last .1 .1 .0) (within f (c .before .before .n .given .1)))
 
-write-all-requires : tie.Need-write-all-requires
-write-all-requires c κs = search needs
+write-requires : tie.Need-write-requires
+write-requires c κs = search needs
 
 enum-told : tie.Need-enum-told
 enum-told c = search needs
@@ -59,9 +59,9 @@ end-spec =
     (tie.spec
     finish-requires
     enum-known-n
-    slice-reshare-prefix-write-all
-    slice-aggregate-write-all
-    write-all-requires
+    slice-reshare-prefix-write
+    slice-aggregate-write
+    write-requires
     enum-told
     same-length
     returns

@@ -1,4 +1,4 @@
--- `feed_lines` meets its contract: line by line, what is said of the input stays the same.
+-- `feed_lines` meets its contract: line by line, the scan goes on as it would have gone.
 use mathlib.Core.Path.{_≡_, refl, sym, subst, _∙_}
 use mathlib.Core.List.{List}
 use Prim.Native.Nat.{ℕ, _<_, _-_}
@@ -9,7 +9,8 @@ use borrow.Author.Needs.{needs}
 use Rattle.errors.specs.declared.Count.{Count}
 use Rattle.form.specs.Form.{newline}
 use Rattle.form_line.specs.Stores.{partFrom, withPart, part-length, written-within}
-use Rattle.form_stream.specs.Feeding.{Feeding, Feeds, nothing-fed, line-fed, back-length, not-answered, answer-fed, all-fed, out-full}
+use Rattle.form_stream.specs.Scan.{scanAt}
+use Rattle.form_stream.specs.Steps.{Goes, not-gone, goes-on, goes-to-the-end, goes-no-further, goes-behind-the-line, back-length}
 use Rattle.form_stream.specs.Stream.{reply}
 use Rattle.errors.specs.Answer.{written}
 use Rattle.errors.specs.Cases.{left}
@@ -17,18 +18,19 @@ use Rattle.form_stream.proofs.feed_lines.Statement.{statement}
 use Rattle.form_stream.proofs.feed_lines.Tie as tie
 
 abbrev Inv-loop : tie.InvT-loop
-Inv-loop chunk line₀ len out₀ held₀ filled₀ i₀ line out held filled i = (length line ≡ length line₀) × (length out ≡ length out₀) × Feeding out₀ chunk line₀ len i held filled line out
+Inv-loop chunk from line₀ len out₀ held₀ filled₀ i₀ line out held filled i = (length line ≡ length line₀) × (length out ≡ length out₀) × Goes chunk (scanAt from len 0 line₀ out₀) i held filled line out
 
 abbrev μ-loop : tie.MeasureT-loop
-μ-loop chunk line₀ len out₀ held₀ filled₀ i₀ line out held filled i = length chunk - i
+μ-loop chunk from line₀ len out₀ held₀ filled₀ i₀ line out held filled i = length chunk - i
 
 loop-holds : tie.Need-loop-holds Inv-loop μ-loop
-loop-holds c = (refl, refl, nothing-fed _ _ _ _ (c .before .before .before .pre .1))
+loop-holds c = (refl, refl, not-gone _ _ _ _ _ (c .before .before .before .pre .1))
 
 take-line-requires : tie.Need-take-line-requires Inv-loop μ-loop
 take-line-requires c κs =
     let s = c .before .before in
-    (s .loop .inv .2 .place, (omega (arith, s .loop .inv .0, s .before .before .before .before .pre .0), s .loop .inv .2 .kept))
+    let p = s .before .before .before .before .pre in
+    (omega (arith, c .before .loop-test .taken), (s .loop .inv .0 ∙ p .0, omega (arith, s .loop .inv .0, s .loop .inv .2 .kept, p .1)))
 
 -- the bytes up to the end of a line or of the chunk are taken in
 module _ (c : tie.After-take-line Inv-loop μ-loop) where
@@ -41,8 +43,8 @@ module _ (c : tie.After-take-line Inv-loop μ-loop) where
   abbrev after : List ℕ
   after = c .take-line .last .1 .1 .0
 
-  fed : Feeding (top .args .out .now) (top .args .chunk .now) (top .args .line .now) (top .args .len) (c .take-line .result .at) (c .take-line .result .len) (begun .loop .filled) after (begun .loop .out)
-  fed = line-fed _ _ _ _ _ _ _ _ _ (begun .loop .inv .2) after (c .take-line .result) (c .take-line .ensures .0) (c .take-line .ensures .1)
+  fed : Goes (top .args .chunk .now) (scanAt (top .args .from) (top .args .len) 0 (top .args .line .now) (top .args .out .now)) (c .take-line .result .at) (c .take-line .result .len) (begun .loop .filled) after (begun .loop .out)
+  fed = goes-on _ _ _ _ _ _ _ (begun .loop .inv .2) after (c .take-line .result) (c .take-line .ensures .0)
 
   line-same : length after ≡ length (top .args .line .now)
   line-same = c .take-line .kept .1 .1 .0 ∙ begun .loop .inv .0
@@ -54,7 +56,7 @@ same-length-2 : tie.Need-same-length-2 Inv-loop μ-loop
 same-length-2 c = begun (c .before .before .before) .loop .inv .1
 
 returns : tie.Need-returns Inv-loop μ-loop
-returns c = let a = c .before .before .before in all-fed _ _ _ _ _ _ _ _ _ (fed a) (omega (arith, c .if1 .taken))
+returns c = let a = c .before .before .before in goes-to-the-end _ _ _ _ _ _ _ (fed a) (omega (arith, c .if1 .taken))
 
 slice-reshare-prefix-reply : tie.Need-slice-reshare-prefix-reply Inv-loop μ-loop
 slice-reshare-prefix-reply c = fed (c .before .before .before) .kept
@@ -98,7 +100,7 @@ module _ (c : tie.After-reply Inv-loop μ-loop) where
       (h, e .stops h)
 
   out-same : length (withPart (begun taken .loop .filled) (begun taken .loop .out) part) ≡ length (top taken .args .out .now)
-  out-same = back-length _ _ _ _ _ _ _ _ _ (fed taken) part part-same ∙ begun taken .loop .inv .1
+  out-same = back-length _ _ _ _ _ _ _ (fed taken) part part-same ∙ begun taken .loop .inv .1
 
 enum-known-m : tie.Need-enum-known-m Inv-loop μ-loop
 enum-known-m c = search needs
@@ -121,7 +123,7 @@ loop-again c =
     let r = c .before .before .before .before .before in
     let a = taken r in
     let e = line-ends r in
-    (line-same a, out-same r, answer-fed _ _ _ _ _ _ _ _ _ (fed a) (c .before .m .given .0 .0) (part r) (part-same r) (e .0) (e .1) (replied r (c .before .m .given .1)))
+    (line-same a, out-same r, goes-behind-the-line _ _ _ _ _ _ _ (fed a) (c .before .m .given .0 .0) (part r) (part-same r) (e .0) (e .1) (replied r (c .before .m .given .1)))
 
 enum-told : tie.Need-enum-told Inv-loop μ-loop
 enum-told c = search needs
@@ -135,13 +137,8 @@ same-length-4 c = out-same (c .before .before .before .before)
 returns-2 : tie.Need-returns-2 Inv-loop μ-loop
 returns-2 c =
     let r = c .before .before .before .before in
-    let a = taken r in
-    let t = top a .args in
-    let filled = begun a .loop .filled in
-    let out = begun a .loop .out in
-    let e = not-answered _ _ _ _ _ _ _ _ _ (fed a) (part r) (c .enum-told .given .0 .0) (replied r (c .enum-told .given .1)) in
-    subst (λ (o : List ℕ). Feeds (t .out .now) (t .chunk .now) (t .line .now) (t .len) (after a) o (record { next = a .take-line .result .at; len = a .take-line .result .len; filled = filled })) (sym (e .1))
-    (out-full _ _ _ _ _ _ _ _ _ (fed a) (length (partFrom filled out)) (e .0) (omega (arith, part-length filled out, fed a .room)))
+    let e = line-ends r in
+    goes-no-further _ _ _ _ _ _ _ (fed (taken r)) (e .0) (e .1) (part r) (c .enum-told .given .0 .0) (replied r (c .enum-told .given .1))
 
 same-length-5 : tie.Need-same-length-5 Inv-loop μ-loop
 same-length-5 c = c .before .loop .inv .0
@@ -150,7 +147,7 @@ same-length-6 : tie.Need-same-length-6 Inv-loop μ-loop
 same-length-6 c = c .before .loop .inv .1
 
 returns-3 : tie.Need-returns-3 Inv-loop μ-loop
-returns-3 c = all-fed _ _ _ _ _ _ _ _ _ (c .before .loop .inv .2) (c .loop-test .left)
+returns-3 c = goes-to-the-end _ _ _ _ _ _ _ (c .before .loop .inv .2) (c .loop-test .left)
 
 pub feed-lines-spec : {M : Type 1} → statement M
 feed-lines-spec =

@@ -7,7 +7,7 @@ use native.Mathlib.Omega.{arith}
 use Rattle.errors.specs.declared.Count.the-variants.{Counted}
 use Rattle.errors.specs.Answer.{written}
 use Rattle.errors.specs.Cases.{left}
-use Rattle.form_stream.specs.Feeding.{nothing-left, last-line}
+use Rattle.form_stream.specs.Steps.{nothing-left, last-line}
 use Rattle.form_stream.specs.Stream.{reply, said}
 use borrow.Author.Needs.{needs}
 use Rattle.form_stream.proofs.finish.Statement.{statement}

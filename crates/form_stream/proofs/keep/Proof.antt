@@ -1,6 +1,7 @@
--- `keep` meets its contract: the line is full only where it is too long.
+-- `keep` meets its contract: beyond the line's memory nothing is stored.
+use mathlib.Core.Path.{refl, sym}
 use native.Mathlib.Omega.{arith}
-use Rattle.form_stream.specs.Feeding.{one-kept, none-kept}
+use lib.Seq.{set-out}
 use borrow.Author.Needs.{needs}
 use Rattle.form_stream.proofs.keep.Statement.{statement}
 use Rattle.form_stream.proofs.keep.Tie as tie
@@ -15,10 +16,10 @@ same-length : tie.Need-same-length
 same-length c = search needs
 
 returns : tie.Need-returns
-returns c = one-kept _ _ _ (c .if1 .taken)
+returns c = (omega (arith, c .if1 .taken), refl)
 
 returns-2 : tie.Need-returns-2
-returns-2 c = let s = c .before in none-kept _ _ _ (omega (arith, s .pre .0)) (s .pre .1) (c .if1 .left)
+returns-2 c = (omega (arith, c .before .pre .0, c .before .pre .1, c .if1 .left), sym (set-out _ _ _ (c .if1 .left)))
 
 pub keep-spec : {M : Type 1} → statement M
 keep-spec = tie.close (tie.spec slice-write-line add-result same-length returns returns-2)

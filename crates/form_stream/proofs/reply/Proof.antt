@@ -9,7 +9,7 @@ use Rattle.errors.specs.declared.Count.{Count}
 use Rattle.form_area.specs.Area.{lineArea}
 use Rattle.form_line.specs.Stores.{written-within}
 use Rattle.form_line.specs.Line.{printed, lineWritten}
-use Rattle.form_stream.specs.Feeding.{no-room, newline-behind, no-answer}
+use Rattle.form_stream.specs.Steps.{no-room, newline-behind, no-answer}
 use borrow.Author.Needs.{needs}
 use Rattle.form_stream.proofs.reply.Statement.{statement}
 use Rattle.form_stream.proofs.reply.Tie as tie
