@@ -10,6 +10,7 @@ use Rattle.tile.specs.OnMap.{on-map-small}
 use Rattle.children.specs.Laws.{childEntries, quarters, quarters-none, Quarter, in-quarters, quarters-kept, quarter-written, quarters-done}
 use Rattle.children.specs.Laws.{one-place, quarter-part, turn-small, family-place, child-on-map}
 use Prim.Native.Nat.{ℕ, suc, _-_, _+_, _*_, _/_, _%_, _^_, _≤_, _<_}
+use borrow.Author.Needs.{needs}
 use borrow.Fn.Kinds.{In}
 use borrow.Fn.PlainCycle.{Measures, is, falls, and}
 use Rattle.children.proofs.fill.Reads as fill
@@ -51,7 +52,7 @@ fill-kept t c =
     quarters-kept (a .turn) (a .depth - 1) (a .x) (a .y) (a .z) (a .out .now) (i .1) (fill-quarter t c .whole) (i .0) (i .2)
 
 fill-entry-requires : (t : ℕ) → fill-lts.Need-entry-requires (fill-calls t) (fill-at t) fill.Post fill-Inv-loop fill-μ-loop
-fill-entry-requires t c κs = c .before .before .pre .1 .1 .0
+fill-entry-requires t c κs = search needs
 
 fill-slice-write-out : (t : ℕ) → fill-lts.Need-slice-write-out (fill-calls t) (fill-at t) fill.Post fill-Inv-loop fill-μ-loop
 fill-slice-write-out t c = omega (arith, rw (c .before .if1 .taken) at (c .before .before .before .pre .1 .1 .1 .1))
