@@ -1,5 +1,6 @@
 // Whether a call answered what the list says: the refusal's number, 0 for none, then the values, which are zeros where it is refused.
 use errors::BoolAnswer;
+use errors::Check;
 use errors::Count;
 use errors::Refusal;
 use errors::U32Answer;
@@ -37,6 +38,17 @@ pub fn refused(why: Refusal, values: usize, want: &[u64]) -> bool {
         i += 1;
     }
     true
+}
+
+// The answer of a check, on the list's line of a call that has a value, too: only the number is compared.
+pub fn same_check(answer: Check, want: &[u64]) -> bool {
+    if want.len() == 0 {
+        return false;
+    }
+    match answer {
+        Check::Fine => want[0] == 0,
+        Check::Refused(why) => want[0] == errors::number(why) as u64,
+    }
 }
 
 // The answer of a call that says yes or no, and is never refused.

@@ -76,7 +76,8 @@ fn xyz2quadkey_vec(given: &[u64], want: &[u64]) -> bool {
 
 fn of_key(name: &[u8], key: &[u8], want: &[u64]) -> bool {
     if check::same(name, b"quadkey2xyz") {
-        return answers::same_tile(quadkey::quadkey2xyz(key), want);
+        return answers::same_tile(quadkey::quadkey2xyz(key), want)
+            && answers::same_check(quadkey::check(key), want);
     }
     if check::same(name, b"is_quadkey") {
         return answers::same_bool(quadkey::is_quadkey(key), want);

@@ -58,7 +58,8 @@ fn cmp(given: &[u64], want: &[u64]) -> bool {
 
 fn of_tile(name: &[u8], t: Tile, want: &[u64]) -> bool {
     if check::same(name, b"try_new") {
-        return answers::same_tile(Tile::try_new(t.x, t.y, t.z), want);
+        return answers::same_tile(Tile::try_new(t.x, t.y, t.z), want)
+            && answers::same_check(tile::check(t.x, t.y, t.z), want);
     }
     if check::same(name, b"flip") {
         return answers::same_tile(t.flip(), want);

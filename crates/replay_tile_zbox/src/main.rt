@@ -164,7 +164,7 @@ fn lend(boxes: [TileZBox; 40], n: usize) -> U64Answer
 
 fn of_box(name: &[u8], b: TileZBox, want: &[u64]) -> bool {
     if check::same(name, b"flipy") {
-        return same_box(b.flipy(), want);
+        return same_box(b.flipy(), want) && answers::same_check(b.check(), want);
     }
     if check::same(name, b"zoom_in") {
         return same_box(b.zoom_in(), want);
@@ -176,7 +176,7 @@ fn of_box(name: &[u8], b: TileZBox, want: &[u64]) -> bool {
         return same_extent(b.dxdy(), want);
     }
     if check::same(name, b"length") {
-        return answers::same_u64(b.length(), want);
+        return answers::same_u64(b.length(), want) && answers::same_u64(b.size(), want);
     }
     if check::same(name, b"iter") {
         return iter(b, want);

@@ -11,9 +11,6 @@ use replay::parts;
 use zoom::ZoomSet;
 use zoom::ZoomSetAnswer;
 
-// All bits of a set but the one that turns it round.
-const UNTURNED: u32 = 0x7fff_ffff;
-
 fn main() {
     let mut text = io::large_buffer();
     let mut numbers = calls::numbers();
@@ -37,6 +34,9 @@ fn replayed(name: &[u8], given: &[u64], want: &[u64]) -> bool {
     if check::same(name, b"zvec2zset") || check::same(name, b"zvec2zset_rev") {
         return of_zooms(name, given, want);
     }
+    if check::same(name, b"all") && given.len() == 0 {
+        return says_set(ZoomSet::all(), want);
+    }
     let U32Arg::Given(n) = args::u32_at(given, 0) else {
         return false;
     };
@@ -59,7 +59,8 @@ fn of_zooms(name: &[u8], given: &[u64], want: &[u64]) -> bool {
     };
     let zooms = parts::bytes(&room, 0, n);
     if check::same(name, b"zvec2zset") {
-        return answers::same_u32(zoom::zvec2zset(zooms), want);
+        return answers::same_u32(zoom::zvec2zset(zooms), want)
+            && same_set(ZoomSet::from_zooms(zooms), want);
     }
     answers::same_u32(zoom::zvec2zset_rev(zooms), want)
 }
@@ -75,7 +76,7 @@ fn of_bits(name: &[u8], zset: u32, want: &[u64]) -> bool {
     let mut out = [BLANK; 64];
     if check::same(name, b"zset2zvec") {
         let answer = zoom::zset2zvec(zset, &mut out);
-        return answers::same_bytes(answer, &out, want);
+        return answers::same_bytes(answer, &out, want) && to_zooms(ZoomSet::new(zset), want);
     }
     if check::same(name, b"zset2zvec_rev") {
         let answer = zoom::zset2zvec_rev(zset, &mut out);
@@ -87,11 +88,29 @@ fn of_bits(name: &[u8], zset: u32, want: &[u64]) -> bool {
     false
 }
 
-// The list says the count, then all lowest zooms, then all highest ones. There is memory enough, and nothing else is refused.
+fn to_zooms(set: ZoomSet, want: &[u64]) -> bool {
+    let mut out = [BLANK; 64];
+    let answer = set.to_zooms(&mut out);
+    answers::same_bytes(answer, &out, want)
+}
+
 fn zoom_ranges(zset: u32, want: &[u64]) -> bool {
     let mut lows = [BLANK; 64];
     let mut highs = [BLANK; 64];
-    let Count::Counted(n) = zoom::zoom_ranges(zset, &mut lows, &mut highs) else {
+    let answer = zoom::zoom_ranges(zset, &mut lows, &mut highs);
+    same_ranges(answer, &lows, &highs, want) && ranges_of(ZoomSet::new(zset), want)
+}
+
+fn ranges_of(set: ZoomSet, want: &[u64]) -> bool {
+    let mut lows = [BLANK; 64];
+    let mut highs = [BLANK; 64];
+    let answer = set.zoom_ranges(&mut lows, &mut highs);
+    same_ranges(answer, &lows, &highs, want)
+}
+
+// The list says the count, then all lowest zooms, then all highest ones. There is memory enough, and nothing else is refused.
+fn same_ranges(answer: Count, lows: &[u8], highs: &[u8], want: &[u64]) -> bool {
+    let Count::Counted(n) = answer else {
         return false;
     };
     if n > 64 {
@@ -103,7 +122,7 @@ fn zoom_ranges(zset: u32, want: &[u64]) -> bool {
     if want[0] != 0 || want[1] != n as u64 {
         return false;
     }
-    listed(&lows, parts::numbers(want, 2, n)) && listed(&highs, parts::numbers(want, 2 + n, n))
+    listed(lows, parts::numbers(want, 2, n)) && listed(highs, parts::numbers(want, 2 + n, n))
 }
 
 // Whether lent memory, all `BLANK` before, begins with these entries, and is as it was past them.
@@ -134,19 +153,18 @@ fn common(name: &[u8], set: ZoomSet, given: &[u64], want: &[u64]) -> bool {
         let U32Arg::Given(other) = args::u32_at(given, 1) else {
             return false;
         };
-        let both = set.and(ZoomSet::new(other));
-        return says_set(both, want) && same_set(both, set.and_bits(other));
+        return says_set(set.and(ZoomSet::new(other)), want) && says_set(set.and_bits(other), want);
     }
     if check::same(name, b"and_zoom") {
         let ByteArg::Given(z) = args::byte_at(given, 1) else {
             return false;
         };
-        return and_zoom(set.and_zoom(z), want);
+        return same_set(set.and_zoom(z), want);
     }
     false
 }
 
-fn and_zoom(answer: ZoomSetAnswer, want: &[u64]) -> bool {
+fn same_set(answer: ZoomSetAnswer, want: &[u64]) -> bool {
     match answer {
         ZoomSetAnswer::Set(set) => says_set(set, want),
         ZoomSetAnswer::Refused(why) => answers::refused(why, 1, want),
@@ -155,28 +173,5 @@ fn and_zoom(answer: ZoomSetAnswer, want: &[u64]) -> bool {
 
 // Whether the list says that the call is accepted, with this set.
 fn says_set(set: ZoomSet, want: &[u64]) -> bool {
-    if want.len() != 2 {
-        return false;
-    }
-    let U32Arg::Given(n) = args::u32_at(want, 1) else {
-        return false;
-    };
-    want[0] == 0 && same_set(set, ZoomSet::new(n))
-}
-
-// A set does not show its number. Its zooms are compared, and its bits below the one that turns it round.
-fn same_set(a: ZoomSet, b: ZoomSet) -> bool {
-    same_zooms(a, b) && same_zooms(a.and_bits(UNTURNED), b.and_bits(UNTURNED))
-}
-
-fn same_zooms(a: ZoomSet, b: ZoomSet) -> bool {
-    let mut left = [BLANK; 64];
-    let mut right = [BLANK; 64];
-    let Count::Counted(n) = a.to_zooms(&mut left) else {
-        return false;
-    };
-    let Count::Counted(m) = b.to_zooms(&mut right) else {
-        return false;
-    };
-    n == m && check::same(&left, &right)
+    answers::accepted(&[set.number() as u64], want)
 }

@@ -2,6 +2,7 @@
 // what the page says and what the library gives. The last line counts them, and those that differ.
 mod area_limits;
 mod bing;
+mod keys;
 mod limits;
 mod pictures;
 mod slippy;
@@ -23,6 +24,8 @@ fn main() {
     t = slippy::corner(t);
     t = slippy::subtiles(t);
     t = slippy::from_the_bottom(t);
+    t = keys::ancestors(t);
+    t = keys::shared(t);
     t = limits::keys(t);
     t = limits::lists(t);
     t = area_limits::lists(t);

@@ -31,6 +31,7 @@ fn levels(list: &mut List) {
         let (_, y, z) = t;
         valid(list, t);
         list.call("flipy", &[y.into(), z.into()], paper::row(y, z), 1, || vec![rust::flipy(y, z).into()]);
+        list.call("yflip", &[y.into(), z.into()], paper::row(y, z), 1, || vec![rust::yflip(y, z).into()]);
     }
 }
 

@@ -21,6 +21,7 @@ pub fn write(list: &mut List) {
             vec![rust::zvec2zset_rev(&zooms).into()]
         });
     }
+    list.call("all", &[], 0, 1, || vec![number(ZoomSet::all())]);
     common(list);
 }
 

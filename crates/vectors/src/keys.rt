@@ -1,0 +1,63 @@
+// The calls that document 01 adds to keys: a part of the caller's own key, and beside it the number by which it is refused.
+use crate::tally;
+use crate::tally::Tally;
+use crate::text;
+use crate::text::Text;
+
+const LONG: [u8; 30] = [b'3'; 30];
+
+pub fn ancestors(before: Tally) -> Tally {
+    let mut t = before;
+    tally::source(
+        b"Document 01, Quadkey: an ancestor's key is the leading part of a key, longer is 3",
+    );
+    t = ancestor(t, b"130", 0, b"-");
+    t = ancestor(t, b"130", 2, b"13");
+    t = ancestor(t, b"130", 3, b"130");
+    t = ancestor(t, b"130", 4, b"refusal 3");
+    t = ancestor(t, b"134", 2, b"refusal 5");
+    t = ancestor(t, &LONG, 30, b"refusal 4");
+    ancestor(t, &LONG, 31, b"refusal 3")
+}
+
+fn ancestor(t: Tally, key: &[u8], n: usize, says: &[u8]) -> Tally {
+    tally::asked(b"first ");
+    io::print_decimal(1, n as u64);
+    io::write_all(1, b" digits of ");
+    io::write_all(1, key);
+    let refused = quadkey::ancestor_key_refusal(key, n);
+    tally::told(t, says, part(refused, quadkey::ancestor_key(key, n)))
+}
+
+pub fn shared(before: Tally) -> Tally {
+    let mut t = before;
+    tally::source(b"Document 01, Quadkey: of two keys, the key of their deepest shared ancestor");
+    t = shared_by(t, b"130", b"133", b"13");
+    t = shared_by(t, b"13", b"130", b"13");
+    t = shared_by(t, b"0", b"3", b"-");
+    t = shared_by(t, b"130", b"134", b"refusal 5");
+    t = shared_by(t, b"130", &LONG, b"refusal 4");
+    shared_by(t, b"134", &LONG, b"refusal 4")
+}
+
+fn shared_by(t: Tally, a: &[u8], b: &[u8], says: &[u8]) -> Tally {
+    tally::asked(b"what ");
+    io::write_all(1, a);
+    io::write_all(1, b" and ");
+    io::write_all(1, b);
+    io::write_all(1, b" share");
+    let refused = quadkey::shared_key_refusal(a, b);
+    tally::told(t, says, part(refused, quadkey::shared_key(a, b)))
+}
+
+// The part that is handed back, `-` if it is empty. Behind a refusal stands nothing, since then it is to be empty.
+fn part(refused: u8, bytes: &[u8]) -> Text {
+    if refused != 0 {
+        let why = text::number(text::put(text::none(), b"refusal "), refused as u64);
+        return text::put(why, bytes);
+    }
+    if bytes.len() == 0 {
+        return text::put(text::none(), b"-");
+    }
+    text::put(text::none(), bytes)
+}
