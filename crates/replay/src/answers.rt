@@ -40,7 +40,7 @@ pub fn refused(why: Refusal, values: usize, want: &[u64]) -> bool {
     true
 }
 
-// The answer of a check, on the list's line of a call that has a value, too: only the number is compared.
+// The answer of a check, held to the line of a call that has a value too: only the number is compared.
 pub fn same_check(answer: Check, want: &[u64]) -> bool {
     if want.len() == 0 {
         return false;

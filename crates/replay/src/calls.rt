@@ -7,7 +7,7 @@ use crate::parse::Parsed;
 use crate::parse::Shape;
 use crate::parts;
 
-// A call, its line, and the how many-th it is. At the end of the list none is found.
+// A call, its line, and how many calls there are up to it. At the end of the list none is found.
 pub struct Call {
     pub found: bool,
     pub count: u64,
@@ -49,7 +49,7 @@ pub fn answer(numbers: &[u64; 4096], call: Call) -> &[u64] {
     parts::numbers(numbers, shape.args, shape.answers)
 }
 
-// The first call behind a line, up to which there were so many.
+// The first call behind a line, with so many calls before it.
 fn seek(text: &mut [u8; 65536], numbers: &mut [u64; 4096], last: Line, count: u64) -> Call {
     let mut line = last;
     // A list ends long before the turns do.

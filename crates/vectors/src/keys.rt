@@ -50,7 +50,7 @@ fn shared_by(t: Tally, a: &[u8], b: &[u8], says: &[u8]) -> Tally {
     tally::told(t, says, part(refused, quadkey::shared_key(a, b)))
 }
 
-// The part that is handed back, `-` if it is empty. Behind a refusal stands nothing, since then it is to be empty.
+// The part that is handed back, `-` if it is empty. Behind a refusal stands the part that came with it, which is to be nothing.
 fn part(refused: u8, bytes: &[u8]) -> Text {
     if refused != 0 {
         let why = text::number(text::put(text::none(), b"refusal "), refused as u64);
