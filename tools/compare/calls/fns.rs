@@ -1,6 +1,7 @@
 //! Levels, relatives, neighbours and numbers of tiles.
 use utiles_core::{self as rust, Tile};
 
+use crate::entries::of_tiles;
 use crate::ffi::*;
 use crate::inputs;
 use crate::memory::{junk, lend, placed, value, written};
@@ -22,10 +23,6 @@ pub fn compare(tally: &mut Tally, random: &mut Random) {
     around(tally, random, t);
     bits(tally, random);
     numbers(tally, random, t);
-}
-
-fn ids(tiles: &[Tile]) -> Vec<u64> {
-    tiles.iter().map(|t| rust::to_id(t.x, t.y, t.z)).collect()
 }
 
 fn level(tally: &mut Tally, random: &mut Random, (x, y, z): Xyz) {
@@ -78,9 +75,11 @@ fn descendants(tally: &mut Tally, random: &mut Random, t: Xyz) {
     let zoom = target.unwrap_or(z + 1);
     let junk = junk(random, 4_usize.pow(zoom.saturating_sub(z).into()), |n| n);
     let ours = lend(&junk, |out, places, count| unsafe { nori_children(x, y, z, zoom, out, places, count) });
-    tally.call("children", (t, target), ours, || written(&junk, &ids(&rust::children(x, y, z, target))));
+    tally.call("children", (t, target), ours, || written(&junk, &of_tiles(&rust::children(x, y, z, target))));
     let ours = lend(&junk, |out, places, count| unsafe { nori_children_zorder(x, y, z, zoom, out, places, count) });
-    tally.call("children_zorder", (t, target), ours, || written(&junk, &ids(&rust::children_zorder(x, y, z, target))));
+    tally.call("children_zorder", (t, target), ours, || {
+        written(&junk, &of_tiles(&rust::children_zorder(x, y, z, target)))
+    });
 }
 
 fn listed(
@@ -94,7 +93,7 @@ fn listed(
 ) {
     let junk = junk(random, most, |n| n);
     let ours = lend(&junk, |out, places, count| unsafe { ours(t.0, t.1, t.2, out, places, count) });
-    tally.call(name, t, ours, || written(&junk, &ids(&theirs())));
+    tally.call(name, t, ours, || written(&junk, &of_tiles(&theirs())));
 }
 
 // On the right and bottom edges from zoom 2 on, document 01 has the Rust's list with the tiles off the map struck out.

@@ -2,6 +2,7 @@
 //! differ. Every call that is counted was run by both, and lies in the domain that document 01 states for comparing.
 //! Ends with 1 if any differs.
 mod bbox;
+mod entries;
 mod fns;
 mod inputs;
 mod memory;

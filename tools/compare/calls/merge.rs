@@ -4,6 +4,7 @@ use std::collections::HashSet;
 use utiles_core::merge as rust;
 use utiles_core::{Tile, from_id, to_id};
 
+use crate::entries;
 use crate::ffi::*;
 use crate::inputs;
 use crate::lists::{ancestors, level, shuffled, under};
@@ -19,11 +20,12 @@ pub fn compare(tally: &mut Tally, random: &mut Random) {
     let list = if random.below(4) == 0 { list } else { shuffled(random, &list) };
     let m = floor(random, &list);
     let set: HashSet<Tile> = list.iter().map(|&n| from_id(n)).collect();
+    let sent = entries::of_ids(&list);
     let lent = junk(random, list.len(), |n| n);
     let least = m.unwrap_or(0);
     let mut changed = 9;
     let ours = lend(&lent, |out, places, count| unsafe {
-        nori_merge(list.as_ptr(), list.len(), least, out, places, count, &mut changed)
+        nori_merge(sent.as_ptr(), sent.len(), least, out, places, count, &mut changed)
     });
     tally.call("merge", (m, &list), (ours, changed), || {
         let (merged, changed) = rust::merge(&set, m);
@@ -33,7 +35,7 @@ pub fn compare(tally: &mut Tally, random: &mut Random) {
         [("simplify_v1", nori_simplify_v1, rust::simplify_v1), ("simplify", nori_simplify, rust::simplify)];
     for (name, ours, theirs) in settlings {
         let ours =
-            lend(&lent, |out, places, count| unsafe { ours(list.as_ptr(), list.len(), least, out, places, count) });
+            lend(&lent, |out, places, count| unsafe { ours(sent.as_ptr(), sent.len(), least, out, places, count) });
         tally.call(name, (m, &list), ours, || settled(&lent, &list, theirs(&set, m)));
     }
 }
@@ -42,7 +44,7 @@ pub fn compare(tally: &mut Tally, random: &mut Random) {
 fn settled(lent: &[u64], list: &[u64], set: HashSet<Tile>) -> Lent<u64> {
     let mut tiles: Vec<Tile> = set.into_iter().collect();
     tiles.sort();
-    let mut memory: Vec<u64> = tiles.iter().map(|t| to_id(t.x, t.y, t.z)).collect();
+    let mut memory = entries::of_tiles(&tiles);
     memory.resize(list.len(), 0);
     memory.extend(&lent[list.len()..]);
     (0, tiles.len() as u64, memory)

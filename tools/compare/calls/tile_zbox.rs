@@ -2,6 +2,7 @@
 use utiles_core::tile_zbox::{TileZBox, TileZBoxes};
 use utiles_core::{Tile, from_id, to_id};
 
+use crate::entries;
 use crate::ffi::*;
 use crate::inputs;
 use crate::memory::{junk, lend, value};
@@ -44,8 +45,9 @@ fn of_tiles(tally: &mut Tally, random: &mut Random) {
     tally.call("from_tile", t, ours, || found(TileZBox::from_tile(&Tile::new_unchecked(x, y, z))));
     let list: Vec<u64> =
         (0..=random.below(12)).map(|_| inputs::tile_of(random, z)).map(|(x, y, z)| to_id(x, y, z)).collect();
+    let sent = entries::of_ids(&list);
     let ours = boxed(|bz, left, right, top, bottom| unsafe {
-        nori_zbox_from_tiles(list.as_ptr(), list.len(), bz, left, right, top, bottom)
+        nori_zbox_from_tiles(sent.as_ptr(), sent.len(), bz, left, right, top, bottom)
     });
     tally.call("from_tiles", &list, ours, || {
         let tiles: Vec<Tile> = list.iter().map(|&n| from_id(n)).collect();
