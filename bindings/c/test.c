@@ -61,6 +61,10 @@ static void boxes_and_zooms(void)
     EXPECT(nori_zbox_length(16, 0, 65535, 0, 65535, &length) == 0 && length == 4294967296u);
     EXPECT(nori_zbox_next(3, 1, 3, 5, 6, 5, &count, &x, &y, &z, &after) == 0 && count == 1 && x == 3 && y == 6 && after == 6);
     EXPECT(nori_zbox_next(3, 1, 3, 5, 6, 7, &count, &x, &y, &z, &after) == NORI_NO_BOX && count == 0);
+    const uint32_t boxes[] = {3, 1, 3, 5, 6, 0, 0, 0, 0, 0};
+    EXPECT(nori_zboxes_next(boxes, 10, 6, &count, &x, &y, &z, &after) == 0 && count == 1 && x == 0 && z == 0 && after == 7);
+    EXPECT(nori_zboxes_next(boxes, 10, 8, &count, &x, &y, &z, &after) == NORI_NO_BOX && count == 0 && after == 0);
+    EXPECT(nori_zbox_size_hint(3, 1, 3, 5, 6, 5, &length) == 0 && length == 6);
     EXPECT(nori_zvec2zset(zooms, 4, &zset) == 0 && zset == 23);
     EXPECT(nori_zoom_ranges(zset, lows, 2, highs, 2, &ranges) == 0 && ranges == 2 && lows[1] == 4 && highs[0] == 2);
     EXPECT(nori_bbox_contains_lnglat(170.0, -5.0, -170.0, 5.0, 175.0, 0.0, &told) == 0 && told == 1);

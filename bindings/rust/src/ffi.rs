@@ -409,6 +409,16 @@ unsafe extern "C" {
         tz: &mut u8,
         after: &mut u64,
     ) -> u8;
+    /// How many tiles the Rust's iterator says are left of a box: all of them, also behind the first before ones.
+    pub safe fn nori_zbox_size_hint(
+        zoom: u8,
+        minx: u32,
+        maxx: u32,
+        miny: u32,
+        maxy: u32,
+        before: u64,
+        length: &mut u64,
+    ) -> u8;
     /// How many tiles several boxes have together, overlaps counted twice.
     pub unsafe fn nori_zboxes_length(boxes: *const u32, boxes_count: usize, length: &mut u64)
     -> u8;
@@ -419,6 +429,17 @@ unsafe extern "C" {
         out: *mut u32,
         out_places: usize,
         count: &mut u64,
+    ) -> u8;
+    /// The tile of several boxes behind the first before ones, box by box, with the count 1; after is before + 1.
+    pub unsafe fn nori_zboxes_next(
+        boxes: *const u32,
+        boxes_count: usize,
+        before: u64,
+        count: &mut u8,
+        tx: &mut u32,
+        ty: &mut u32,
+        tz: &mut u8,
+        after: &mut u64,
     ) -> u8;
     /// The last column, and the last row, of a zoom: 2^zoom - 1.
     pub safe fn nori_zoom_max_xy(zoom: u8, max: &mut u32) -> u8;
@@ -724,8 +745,10 @@ pub const REFUSALS: &[(&str, &[u8])] = &[
     ("nori_zbox_dxdy", &[1, 10]),
     ("nori_zbox_dimensions", &[1, 10]),
     ("nori_zbox_next", &[1, 10]),
+    ("nori_zbox_size_hint", &[1, 10]),
     ("nori_zboxes_length", &[1, 6, 10]),
     ("nori_zboxes_flipy", &[1, 6, 10, 12]),
+    ("nori_zboxes_next", &[1, 6, 10]),
     ("nori_zoom_max_xy", &[1]),
     ("nori_zset2zvec", &[12]),
     ("nori_zset2zvec_rev", &[12]),

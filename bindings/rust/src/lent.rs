@@ -263,6 +263,30 @@ pub fn boxes_length(boxes: &[u32]) -> Result<u64, Error> {
     value(|length| unsafe { ffi::nori_zboxes_length(boxes.as_ptr(), boxes.len(), length) })
 }
 
+/// The tile of boxes of five numbers as in [`boxes_length`] that stands behind the first `before`
+/// ones, box by box, and how many tiles are given then; none behind the last. Refused by
+/// [`Error::Zoom`], [`Error::TooMany`] or [`Error::NoBox`].
+///
+/// # Examples
+/// ```
+/// use noripliers::{Error, Tile, lent};
+///
+/// let boxes = [3, 1, 3, 5, 6, 0, 0, 0, 0, 0];
+/// assert_eq!(lent::boxes_next(&boxes, 5), Ok((Some(Tile::new(3, 6, 3)?), 6)));
+/// assert_eq!(lent::boxes_next(&boxes, 6), Ok((Some(Tile::root()), 7)));
+/// assert_eq!(lent::boxes_next(&boxes, 7), Ok((None, 7)));
+/// assert_eq!(lent::boxes_next(&boxes, 8), Err(Error::NoBox));
+/// # Ok::<(), Error>(())
+/// ```
+pub fn boxes_next(boxes: &[u32], before: u64) -> Result<(Option<Tile>, u64), Error> {
+    let (many, x, y, z, after): (u8, u32, u32, u8, u64) = value(|(many, x, y, z, after)| {
+        // SAFETY: as said above.
+        unsafe { ffi::nori_zboxes_next(boxes.as_ptr(), boxes.len(), before, many, x, y, z, after) }
+    })?;
+    let tile = (many == 1).then(|| never_refused(Tile::new(x, y, z)));
+    Ok((tile, after))
+}
+
 /// Boxes of five numbers as in [`boxes_length`], each with its rows counted from the other side.
 ///
 /// # Examples

@@ -427,12 +427,28 @@ impl Iterator for TileZBoxIterator {
     }
 
     fn size_hint(&self) -> (usize, Option<usize>) {
-        let rest = usize::try_from(self.range.length() - self.given).ok();
-        (rest.unwrap_or(usize::MAX), rest)
+        let TileZBox {
+            zoom,
+            minx,
+            maxx,
+            miny,
+            maxy,
+        } = self.range;
+        // The hint of utiles counts the tiles that were given, too.
+        let all: u64 = never_refused(value(|all| {
+            ffi::nori_zbox_size_hint(zoom, minx, maxx, miny, maxy, self.given, all)
+        }));
+        left(all - self.given)
     }
 }
 
 impl FusedIterator for TileZBoxIterator {}
+
+/// The hint of an iterator that has so many tiles left.
+fn left(tiles: u64) -> (usize, Option<usize>) {
+    let tiles = usize::try_from(tiles).ok();
+    (tiles.unwrap_or(usize::MAX), tiles)
+}
 
 impl IntoIterator for TileZBox {
     type Item = Tile;
@@ -548,11 +564,56 @@ impl TryFrom<Vec<TileZBox>> for TileZBoxes {
     }
 }
 
+/// The tiles of several boxes: all of the first, then all of the second, and so on, each row by row.
+///
+/// # Examples
+/// ```
+/// use noripliers::{TileZBox, TileZBoxes};
+///
+/// let boxes = [TileZBox::new(2, 3, 4, 4, 3)?, TileZBox::new(0, 0, 0, 1, 1)?];
+/// let mut tiles = TileZBoxes::try_from(boxes.to_vec())?.into_iter();
+/// assert_eq!(tiles.next().map(|tile| tile.quadkey()), Some("210".to_string()));
+/// assert_eq!(tiles.size_hint(), (3, Some(3)));
+/// let rest: Vec<String> = tiles.map(|tile| tile.quadkey()).collect();
+/// assert_eq!(rest, ["211", "0", "2"]);
+/// # Ok::<(), noripliers::Error>(())
+/// ```
+#[derive(Clone, Debug)]
+pub struct TileZBoxesIterator {
+    numbers: Vec<u32>,
+    given: u64,
+}
+
+impl From<TileZBoxes> for TileZBoxesIterator {
+    fn from(boxes: TileZBoxes) -> Self {
+        Self {
+            numbers: boxes.numbers(),
+            given: 0,
+        }
+    }
+}
+
+impl Iterator for TileZBoxesIterator {
+    type Item = Tile;
+
+    fn next(&mut self) -> Option<Tile> {
+        let (tile, given) = never_refused(lent::boxes_next(&self.numbers, self.given));
+        self.given = given;
+        tile
+    }
+
+    fn size_hint(&self) -> (usize, Option<usize>) {
+        left(never_refused(lent::boxes_length(&self.numbers)) - self.given)
+    }
+}
+
+impl FusedIterator for TileZBoxesIterator {}
+
 impl IntoIterator for TileZBoxes {
     type Item = Tile;
-    type IntoIter = std::iter::Flatten<std::vec::IntoIter<TileZBox>>;
+    type IntoIter = TileZBoxesIterator;
 
-    fn into_iter(self) -> Self::IntoIter {
-        self.ranges.into_iter().flatten()
+    fn into_iter(self) -> TileZBoxesIterator {
+        TileZBoxesIterator::from(self)
     }
 }

@@ -10,6 +10,7 @@ use Rattle.parent.specs.declared.Parents.{Parents}
 use Rattle.tile.specs.OnMap.{tileAt}
 use Rattle.tile.specs.declared.Tile.{Tile}
 use Rattle.tile_zbox.specs.Cursor.{Step}
+use Rattle.tile_zbox_iter.specs.Cursor.{BoxesStep}
 
 pub record Held : Type 0 where
   pub count : ℕ
@@ -41,7 +42,7 @@ nextAt tile rest = record { tile = tile; rest = rest }
 abbrev pub nextNumbers : Answer Next → Answer NextHeld
 nextNumbers a = answered (a .number) (nextAt (heldOf (a .value .tile)) (heldOf (a .value .rest .current)))
 
--- of a box's cursor, the tile and how many were given: the box is the caller's
+-- of a cursor over a box or several, the tile and how many were given: the boxes are the caller's
 pub record StepGiven : Type 0 where
   pub count : ℕ
   pub tile : Tile
@@ -52,6 +53,9 @@ stepAt count tile after = record { count = count; tile = tile; after = after }
 
 abbrev pub stepNumbers : Answer Step → Answer StepGiven
 stepNumbers a = answered (a .number) (stepAt (a .value .count) (a .value .tile) (a .value .cursor .given))
+
+abbrev pub boxesStepNumbers : Answer BoxesStep → Answer StepGiven
+boxesStepNumbers a = answered (a .number) (stepAt (a .value .count) (a .value .tile) (a .value .cursor .given))
 
 pub a-count-holds-a-tile : (n x y z : ℕ) → (n ≡ 0 → ⊥) → Some (tileAt x y z) ≡ holding n x y z
 a-count-holds-a-tile zero x y z h = absurd (h refl)

@@ -1,18 +1,22 @@
 // Boxes of tiles: the calls of tile_zbox.rs. A box is a zoom and the least and the greatest x and y, both included.
 use crate::give;
+use tile::Tile;
 use tile_zbox::BoxAnswer;
 use tile_zbox::ExtentAnswer;
 use tile_zbox::NextAnswer;
 use tile_zbox::TileZBox;
 use tile_zbox::TileZBoxIterator;
+use tile_zbox_iter::BoxesNextAnswer;
+use tile_zbox_iter::TileZBoxesIterator;
 ghost use mathlib.Core.Path.{_≡_};
-ghost use Rattle.noripliers.specs.Cursors.{stepAt, stepNumbers};
+ghost use Rattle.noripliers.specs.Cursors.{boxesStepNumbers, stepAt, stepNumbers};
 ghost use Rattle.noripliers.specs.Exported.{answered, asByte, given};
 ghost use Rattle.tile.specs.OnMap.{tileAt};
 ghost use Rattle.tile_zbox.specs.Around.{fromTilesOf};
 ghost use Rattle.tile_zbox.specs.Box.{boxAt, boxCase, boxRefusal, containsOf, dimensionsOf, dxOf, dxdyOf, dyOf, extentAt, extentCase, flipOf, fromTileOf, lengthOf, newOf, zoomDepthOf, zoomInOf};
 ghost use Rattle.tile_zbox.specs.Boxes.{boxesFlipOf, numbersLengthOf};
 ghost use Rattle.tile_zbox.specs.Cursor.{cursorAt, nextCase, nextOf};
+ghost use Rattle.tile_zbox_iter.specs.Cursor.{boxesCursorAt, boxesNextCase, boxesNextOf, sizeHintOf};
 
 // The box itself, where it is one of the map: no min above its max, and no max off the map.
 // Refused: 1, 10.
@@ -418,6 +422,34 @@ pub extern "C" fn nori_zbox_next(
     give_next(cursor.next(), count, tx, ty, tz, after)
 }
 
+// How many tiles the Rust's iterator says are left of a box: all of them, also behind the first before ones.
+// Refused: 1, 10.
+#[no_mangle]
+pub extern "C" fn nori_zbox_size_hint(
+    zoom: u8,
+    minx: u32,
+    maxx: u32,
+    miny: u32,
+    maxy: u32,
+    before: u64,
+    length: &mut u64,
+) -> u8
+    ensures { λ r. ⌜ answered r (now (length .exit)) ≡ sizeHintOf (cursorAt (boxAt zoom minx maxx miny maxy) before) ⌝ }
+{
+    let range = TileZBox {
+        zoom,
+        minx,
+        maxx,
+        miny,
+        maxy,
+    };
+    let cursor = TileZBoxIterator {
+        range,
+        given: before,
+    };
+    give::u64_number(tile_zbox_iter::size_hint(cursor), length)
+}
+
 // How many tiles several boxes have together, overlaps counted twice.
 // Five numbers a box: zoom, least x, greatest x, least y, greatest y.
 // Refused: 1, 6, 10.
@@ -437,6 +469,26 @@ pub extern "C" fn nori_zboxes_flipy(boxes: &[u32], out: &mut [u32], count: &mut 
 {
     let answer = tile_zbox::boxes_flipy(boxes, out);
     give::count(answer, count)
+}
+
+// The tile of several boxes behind the first before ones, box by box, with the count 1; after is before + 1.
+// Each box's tiles come as nori_zbox_next gives them. Behind the last tile of all the count is 0 and after is before.
+// Five numbers a box, as for nori_zboxes_length.
+// Refused: 1, 6, 10.
+#[no_mangle]
+pub extern "C" fn nori_zboxes_next(
+    boxes: &[u32],
+    before: u64,
+    count: &mut u8,
+    tx: &mut u32,
+    ty: &mut u32,
+    tz: &mut u8,
+    after: &mut u64,
+) -> u8
+    ensures { λ r. ⌜ answered r (stepAt (now (count .exit)) (tileAt (now (tx .exit)) (now (ty .exit)) (now (tz .exit))) (now (after .exit))) ≡ boxesStepNumbers (boxesNextOf (boxesCursorAt before) (now (boxes .entry))) ⌝ }
+{
+    let cursor = TileZBoxesIterator { given: before };
+    give_boxes_next(cursor.next(boxes), count, tx, ty, tz, after)
 }
 
 fn give_box(
@@ -496,30 +548,58 @@ fn give_next(
 ) -> u8
     ensures { λ r. ⌜ answered r (stepAt (now (count .exit)) (tileAt (now (x .exit)) (now (y .exit)) (now (z .exit))) (now (after .exit))) ≡ stepNumbers (nextCase answer) ⌝ }
 {
+    let none = Tile { x: 0, y: 0, z: 0 };
     match answer {
-        NextAnswer::Given(t, cursor) => {
-            *count = 1;
-            *x = t.x;
-            *y = t.y;
-            *z = t.z;
-            *after = cursor.given;
-            0
-        }
-        NextAnswer::End(cursor) => {
-            *count = 0;
-            *x = 0;
-            *y = 0;
-            *z = 0;
-            *after = cursor.given;
-            0
-        }
+        NextAnswer::Given(t, cursor) => give_step(0, 1, t, cursor.given, count, x, y, z, after),
+        NextAnswer::End(cursor) => give_step(0, 0, none, cursor.given, count, x, y, z, after),
         NextAnswer::Refused(why) => {
-            *count = 0;
-            *x = 0;
-            *y = 0;
-            *z = 0;
-            *after = 0;
-            errors::number(why)
+            give_step(errors::number(why), 0, none, 0, count, x, y, z, after)
         }
     }
+}
+
+fn give_boxes_next(
+    answer: BoxesNextAnswer,
+    count: &mut u8,
+    x: &mut u32,
+    y: &mut u32,
+    z: &mut u8,
+    after: &mut u64,
+) -> u8
+    ensures { λ r. ⌜ answered r (stepAt (now (count .exit)) (tileAt (now (x .exit)) (now (y .exit)) (now (z .exit))) (now (after .exit))) ≡ boxesStepNumbers (boxesNextCase answer) ⌝ }
+{
+    let none = Tile { x: 0, y: 0, z: 0 };
+    match answer {
+        BoxesNextAnswer::Given(t, cursor) => {
+            give_step(0, 1, t, cursor.given, count, x, y, z, after)
+        }
+        BoxesNextAnswer::End(cursor) => {
+            give_step(0, 0, none, cursor.given, count, x, y, z, after)
+        }
+        BoxesNextAnswer::Refused(why) => {
+            give_step(errors::number(why), 0, none, 0, count, x, y, z, after)
+        }
+    }
+}
+
+// What a cursor's step gives, whichever cursor it is.
+fn give_step(
+    number: u8,
+    tiles: u8,
+    t: Tile,
+    given: u64,
+    count: &mut u8,
+    x: &mut u32,
+    y: &mut u32,
+    z: &mut u8,
+    after: &mut u64,
+) -> u8
+    ensures { λ r. ⌜ answered r (stepAt (now (count .exit)) (tileAt (now (x .exit)) (now (y .exit)) (now (z .exit))) (now (after .exit))) ≡ answered number (stepAt tiles t given) ⌝ }
+{
+    *count = tiles;
+    *x = t.x;
+    *y = t.y;
+    *z = t.z;
+    *after = given;
+    number
 }

@@ -218,6 +218,25 @@ fn walked(tally: &mut Tally) {
     for (area, number) in NO_BOXES {
         tally.refuses("nori_zbox_next", next(area, 0), number);
     }
+    hinted(tally);
+}
+
+fn hinted(tally: &mut Tally) {
+    let hint = |(zoom, a, b, c, d): Box, before| {
+        move |length: &mut u64| ffi::nori_zbox_size_hint(zoom, a, b, c, d, before, length)
+    };
+    for before in [0, 1, 6] {
+        tally.gives("nori_zbox_size_hint", hint(AREA, before), 6);
+    }
+    tally.gives(
+        "nori_zbox_size_hint",
+        hint((16, 0, 65_535, 0, 65_535), 1 << 32),
+        1 << 32,
+    );
+    tally.refuses("nori_zbox_size_hint", hint(AREA, 7), 10);
+    for (area, number) in NO_BOXES {
+        tally.refuses("nori_zbox_size_hint", hint(area, 0), number);
+    }
 }
 
 fn several(tally: &mut Tally) {
@@ -240,6 +259,20 @@ fn several(tally: &mut Tally) {
         10,
     );
     tally.lists("nori_zboxes_flipy", flip(vec![]), &[], 0);
+    tally.gives("nori_zboxes_next", next(two.clone(), 0), (1, 1, 5, 3, 1));
+    tally.gives("nori_zboxes_next", next(two.clone(), 5), (1, 3, 6, 3, 6));
+    tally.gives("nori_zboxes_next", next(two.clone(), 6), (1, 0, 0, 0, 7));
+    tally.gives("nori_zboxes_next", next(two.clone(), 7), (0, 0, 0, 0, 7));
+    tally.refuses("nori_zboxes_next", next(two.clone(), 8), 10);
+    tally.gives("nori_zboxes_next", next(vec![], 0), (0, 0, 0, 0, 0));
+    tally.refuses("nori_zboxes_next", next(vec![], 1), 10);
+    let whole = (29, 0, (1 << 29) - 1, 0, (1 << 29) - 1);
+    let last = (1, (1 << 29) - 1, (1 << 29) - 1, 29, 1 << 63);
+    tally.gives(
+        "nori_zboxes_next",
+        next(boxes(&[whole; 32]), (1 << 63) - 1),
+        last,
+    );
     let mut refused = vec![
         (boxes(&[AREA; 33]), 6),
         (vec![256, 0, 0, 0, 0], 1),
@@ -254,6 +287,9 @@ fn several(tally: &mut Tally) {
     }
     for (boxes, number) in refused {
         tally.refuses("nori_zboxes_length", length(boxes.clone()), number);
+        for before in [0, u64::MAX] {
+            tally.refuses("nori_zboxes_next", next(boxes.clone(), before), number);
+        }
         tally.leaves(
             "nori_zboxes_flipy",
             boxes.len(),
@@ -266,6 +302,15 @@ fn several(tally: &mut Tally) {
 
 fn length(boxes: Vec<u32>) -> impl Fn(&mut u64) -> u8 {
     move |length| unsafe { ffi::nori_zboxes_length(boxes.as_ptr(), boxes.len(), length) }
+}
+
+fn next(boxes: Vec<u32>, before: u64) -> impl Fn(&mut (u8, u32, u32, u8, u64)) -> u8 {
+    move |v| unsafe {
+        let (boxes, count) = (boxes.as_ptr(), boxes.len());
+        ffi::nori_zboxes_next(
+            boxes, count, before, &mut v.0, &mut v.1, &mut v.2, &mut v.3, &mut v.4,
+        )
+    }
 }
 
 fn flip(boxes: Vec<u32>) -> impl Fn(*mut u32, usize, &mut u64) -> u8 {

@@ -42,6 +42,10 @@ pub fn compare(random: &mut Random) {
     for (zbox, rust_zbox) in both.flipy().ranges().iter().zip(&rust_both.flipy().ranges) {
         same(zbox, rust_zbox);
     }
+    assert_eq!(
+        walk(&mut both.into_iter().map(Into::into)),
+        walk(&mut rust_both.into_iter())
+    );
     spanned(random);
 }
 
