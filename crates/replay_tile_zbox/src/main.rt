@@ -16,6 +16,8 @@ use tile_zbox::ExtentAnswer;
 use tile_zbox::NextAnswer;
 use tile_zbox::TileZBox;
 use tile_zbox::TileZBoxIterator;
+use tile_zbox_iter::BoxesNextAnswer;
+use tile_zbox_iter::TileZBoxesIterator;
 ghost use mathlib.Core.Path.{_≡_};
 ghost use Prim.Native.Nat.{_≤_};
 ghost use lib.ListN.{length, take};
@@ -56,6 +58,9 @@ fn replayed(name: &[u8], given: &[u64], want: &[u64]) -> bool {
     if check::same(name, b"boxes_length") {
         return boxes_length(given, want);
     }
+    if check::same(name, b"boxes_next") {
+        return boxes_next(given, want);
+    }
     let BoxArg::Given(b) = box_at(given) else {
         return false;
     };
@@ -67,6 +72,9 @@ fn replayed(name: &[u8], given: &[u64], want: &[u64]) -> bool {
     }
     if check::same(name, b"contains_tile") {
         return contains_tile(b, given, want);
+    }
+    if check::same(name, b"size_hint") {
+        return size_hint(b, given, want);
     }
     false
 }
@@ -119,15 +127,58 @@ fn numbers_length(boxes: &[u64], want: &[u64]) -> bool {
         return false;
     }
     let mut room = [0u32; 200];
+    if !narrowed(boxes, &mut room) {
+        return false;
+    }
+    answers::same_u64(tile_zbox::boxes_length(&room[..n]), want)
+}
+
+// Whether the numbers fit: then the front of the room holds them.
+fn narrowed(boxes: &[u64], room: &mut [u32]) -> bool
+    requires { ⌜ length (now boxes) ≤ length (now room) ⌝ }
+    ensures { λ _. ⌜ length (now (room .exit)) ≡ length (now (room .entry)) ⌝ }
+{
     let mut i = 0;
-    while i < n {
+    while i < boxes.len() {
         let U32Arg::Given(number) = args::u32_at(boxes, i) else {
             return false;
         };
         room[i] = number;
         i += 1;
     }
-    answers::same_u64(tile_zbox::boxes_length(&room[..n]), want)
+    true
+}
+
+// How many tiles were given, the count of the boxes, then five numbers of each.
+fn boxes_next(given: &[u64], want: &[u64]) -> bool {
+    if given.len() < 2 {
+        return false;
+    }
+    let n = given.len() - 2;
+    if n % 5 != 0 || given[1] != (n / 5) as u64 {
+        return false;
+    }
+    next_of(parts::numbers(given, 2, n), given[0], want)
+}
+
+fn next_of(boxes: &[u64], before: u64, want: &[u64]) -> bool {
+    let n = boxes.len();
+    if n > 200 {
+        return false;
+    }
+    let mut room = [0u32; 200];
+    if !narrowed(boxes, &mut room) {
+        return false;
+    }
+    let cursor = TileZBoxesIterator { given: before };
+    match cursor.next(&room[..n]) {
+        BoxesNextAnswer::Given(t, rest) => answers::accepted(
+            &[1, t.x as u64, t.y as u64, t.z as u64, rest.given],
+            want,
+        ),
+        BoxesNextAnswer::End(rest) => answers::accepted(&[0, 0, 0, 0, rest.given], want),
+        BoxesNextAnswer::Refused(why) => answers::refused(why, 5, want),
+    }
 }
 
 fn records_length(boxes: &[u64], want: &[u64]) -> bool {
@@ -215,6 +266,17 @@ fn zoom_depth(b: TileZBox, given: &[u64], want: &[u64]) -> bool {
         ByteArg::Given(depth) => same_box(b.zoom_depth(depth), want),
         ByteArg::Bad => false,
     }
+}
+
+fn size_hint(b: TileZBox, given: &[u64], want: &[u64]) -> bool {
+    if given.len() != 6 {
+        return false;
+    }
+    let cursor = TileZBoxIterator {
+        range: b,
+        given: given[5],
+    };
+    answers::same_u64(tile_zbox_iter::size_hint(cursor), want)
 }
 
 fn contains_tile(b: TileZBox, given: &[u64], want: &[u64]) -> bool {

@@ -103,11 +103,17 @@ fn numbers() {
 
 fn boxes() {
     let whole = |z: u8| TileZBox::new(0, (1 << z) - 1, 0, (1 << z) - 1, z);
+    let after_one = |area: TileZBox| {
+        let mut tiles = area.into_iter();
+        tiles.next();
+        tiles
+    };
     show! {
         whole(15).length();
         TileZBox::new(0, 65535, 0, 65534, 16).length();
         whole(16).length();
         whole(16).into_iter().size_hint();
+        after_one(TileZBox::new(0, 1, 0, 0, 1)).size_hint();
         TileZBox::new(1, 0, 0, 0, 0).length();
         TileZBox::new(1, 0, 0, 0, 0).into_iter().next();
         TileZBox::new(1, 0, 0, 0, 0);

@@ -117,6 +117,25 @@ pub fn zboxes(areas: &[Zbox]) -> u64 {
     lowest(&[lowest(&each), if areas.len() > MOST_BOXES { 6 } else { 0 }])
 }
 
+/// A cursor that has given more tiles than there are.
+pub fn given(before: u64, tiles: u64) -> u64 {
+    if before > tiles { 10 } else { 0 }
+}
+
+/// The tile behind the first ones of several boxes, one box after the other, each x first, then y; and how many are given then.
+pub fn boxes_next(areas: &[Zbox], before: u64) -> Vec<u64> {
+    let mut place = before;
+    for &(z, minx, maxx, miny, maxy) in areas {
+        let length = box_length((z, minx, maxx, miny, maxy));
+        if place < length {
+            let columns = u64::from(maxx) - u64::from(minx) + 1;
+            return vec![1, u64::from(minx) + place % columns, u64::from(miny) + place / columns, z.into(), before + 1];
+        }
+        place -= length;
+    }
+    vec![0, 0, 0, 0, before]
+}
+
 pub fn ids(numbers: &[u64]) -> u64 {
     if numbers.iter().any(|&n| id(n) != 0) { 7 } else { 0 }
 }

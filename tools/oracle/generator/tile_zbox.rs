@@ -14,9 +14,11 @@ pub fn write(list: &mut List) {
     for (i, area) in [sample::boxes(), sample::no_boxes()].concat().into_iter().enumerate() {
         of_box(list, area);
         depths(list, area, i);
+        hints(list, area, i);
     }
     contains(list);
     sums(list);
+    walks(list);
 }
 
 fn made((z, minx, maxx, miny, maxy): Zbox) -> TileZBox {
@@ -90,6 +92,27 @@ fn depths(list: &mut List, area: Zbox, turn: usize) {
     }
 }
 
+// Two cursors for each box, in turn. The Rust is not run through long boxes, and it multiplies in 32 bits.
+fn hints(list: &mut List, area: Zbox, turn: usize) {
+    let refusal = paper::zbox(area);
+    let length = if refusal == 0 { paper::box_length(area) } else { 0 };
+    for before in [[0, length + 1], [1, length], [length / 2, u64::MAX]][turn % 3] {
+        let args = [numbers(area), vec![before]].concat();
+        let refusal = paper::lowest(&[refusal, paper::given(before, length)]);
+        if refusal == 0 && (length >= 1 << 32 || before > MOST) {
+            list.rule("size_hint", &args, &[length]);
+        } else {
+            list.call("size_hint", &args, refusal, 1, || {
+                let mut tiles = made(area).into_iter();
+                let given = tiles.by_ref().take(before as usize).count();
+                let (least, most) = tiles.size_hint();
+                assert_eq!((given as u64, most), (before, Some(least)));
+                vec![least as u64]
+            });
+        }
+    }
+}
+
 fn contains(list: &mut List) {
     let mut random = Random::new();
     for (i, area) in sample::boxes().into_iter().enumerate() {
@@ -136,12 +159,70 @@ fn sums(list: &mut List) {
 }
 
 fn sum(list: &mut List, areas: &[Zbox]) {
-    let args = [vec![areas.len() as u64], areas.iter().flat_map(|&area| numbers(area)).collect()].concat();
+    let args = several(areas);
     let refusal = paper::zboxes(areas);
     if refusal == 0 && areas.iter().any(|&area| paper::box_length(area) >= 1 << 32) {
         list.rule("boxes_length", &args, &[areas.iter().map(|&area| paper::box_length(area)).sum()]);
     } else {
-        let all = || TileZBoxes::from(areas.iter().map(|&area| made(area)).collect::<Vec<TileZBox>>());
-        list.call("boxes_length", &args, refusal, 1, || vec![all().length()]);
+        list.call("boxes_length", &args, refusal, 1, || vec![all(areas).length()]);
+    }
+}
+
+// The count of the boxes, then five numbers of each.
+fn several(areas: &[Zbox]) -> Vec<u64> {
+    [vec![areas.len() as u64], areas.iter().flat_map(|&area| numbers(area)).collect()].concat()
+}
+
+fn all(areas: &[Zbox]) -> TileZBoxes {
+    TileZBoxes::from(areas.iter().map(|&area| made(area)).collect::<Vec<TileZBox>>())
+}
+
+// The cursor over several boxes: at every place of a few small ones and just past their end, with a wrong one among them, over as many
+// as are taken and one more, and over boxes that no one walks through.
+fn walks(list: &mut List) {
+    let mut random = Random::new();
+    let (boxes, no_boxes) = (sample::boxes(), sample::no_boxes());
+    let small: Vec<Zbox> = boxes.iter().copied().filter(|&area| paper::box_length(area) <= 6).collect();
+    for count in (0..=4).flat_map(|count| [count; 8]) {
+        let mut areas = random.picks(&small, count);
+        let total: u64 = areas.iter().map(|&area| paper::box_length(area)).sum();
+        (0..=total + 1).for_each(|before| step(list, before, &areas));
+        areas.insert(random.below(count as u64 + 1) as usize, random.pick(&no_boxes));
+        [0, total, u64::MAX].into_iter().for_each(|before| step(list, before, &areas));
+    }
+    let root = (0, 0, 0, 0, 0);
+    (0..=33).for_each(|before| step(list, before, &[root; 32]));
+    step(list, 0, &[root; 33]);
+    step(list, 34, &[root; 33]);
+    step(list, 0, &[&[root; 32][..], &[(DEEPEST + 1, 0, 0, 0, 0)]].concat());
+    step(list, 0, &[&[root; 32][..], &[(0, 1, 0, 0, 0)]].concat());
+    let whole = (DEEPEST, 0, (1 << DEEPEST) - 1, 0, (1 << DEEPEST) - 1);
+    let (row, each) = (1 << DEEPEST, paper::box_length(whole));
+    for before in
+        [0, row - 1, row, each - 1, each, each + row, 31 * each - 1, 31 * each, 32 * each - 1, 32 * each, 32 * each + 1]
+    {
+        step(list, before, &[whole; 32]);
+    }
+    for count in [2, 3, 8, 31, 32].into_iter().flat_map(|count| [count; 6]) {
+        let areas = random.picks(&boxes, count);
+        let total: u64 = areas.iter().map(|&area| paper::box_length(area)).sum();
+        let first = paper::box_length(areas[0]);
+        [first - 1, first, random.below(total), total - 1].into_iter().for_each(|before| step(list, before, &areas));
+    }
+}
+
+fn step(list: &mut List, before: u64, areas: &[Zbox]) {
+    let args = [vec![before], several(areas)].concat();
+    let refusal = paper::zboxes(areas);
+    let total = if refusal == 0 { areas.iter().map(|&area| paper::box_length(area)).sum() } else { 0 };
+    let refusal = paper::lowest(&[refusal, paper::given(before, total)]);
+    // The Rust writes all tiles down before the first is given.
+    if refusal == 0 && total > MOST {
+        list.rule("boxes_next", &args, &paper::boxes_next(areas, before));
+    } else {
+        list.call("boxes_next", &args, refusal, 5, || match all(areas).into_iter().nth(before as usize) {
+            Some(t) => [vec![1], xyz(t), vec![before + 1]].concat(),
+            None => vec![0, 0, 0, 0, before],
+        });
     }
 }
