@@ -125,17 +125,27 @@ fn contains(tally: &mut Tally, random: &mut Random, area: Zbox) {
 }
 
 fn run_through(tally: &mut Tally, area: Zbox) {
-    tally.call("the iterator, run to its end", area, given(area), || (0, made(area).into_iter().collect()));
+    let (z, minx, maxx, miny, maxy) = area;
+    let ours = given(|before, count, t, after| {
+        nori_zbox_next(z, minx, maxx, miny, maxy, before, count, &mut t.0, &mut t.1, &mut t.2, after)
+    });
+    tally.call("the iterator, run to its end", area, ours, || (0, made(area).into_iter().collect()));
+    let before = u64::from(minx) % (paper::box_length(area) + 1);
+    let ours = value(u64::MAX, |length| nori_zbox_size_hint(z, minx, maxx, miny, maxy, before, length));
+    tally.call("size_hint", (area, before), ours, || {
+        let mut tiles = made(area).into_iter();
+        tiles.by_ref().take(before as usize).for_each(drop);
+        (0, tiles.size_hint().0 as u64)
+    });
 }
 
-/// The refusal's number, and all tiles that the box's cursor gives.
-fn given((z, minx, maxx, miny, maxy): Zbox) -> (u8, Vec<Xyz>) {
+/// The refusal's number, and all tiles that a cursor gives.
+fn given(next: impl Fn(u64, &mut u8, &mut Xyz, &mut u64) -> u8) -> (u8, Vec<Xyz>) {
     let mut tiles = Vec::new();
     let mut before = 0;
     loop {
         let (mut count, mut t, mut after) = (9, (u32::MAX, u32::MAX, u8::MAX), u64::MAX);
-        let number =
-            nori_zbox_next(z, minx, maxx, miny, maxy, before, &mut count, &mut t.0, &mut t.1, &mut t.2, &mut after);
+        let number = next(before, &mut count, &mut t, &mut after);
         if number != 0 || count == 0 {
             return (number, tiles);
         }
@@ -155,6 +165,10 @@ fn of_boxes(tally: &mut Tally, random: &mut Random) {
     // The Rust shows the tiles of its boxes, and not their edges.
     let areas: Vec<Zbox> = (0..random.below(4)).map(|_| inputs::small_area(random)).collect();
     let boxes = numbers(&areas);
+    let ours = given(|before, count, t, after| unsafe {
+        nori_zboxes_next(boxes.as_ptr(), boxes.len(), before, count, &mut t.0, &mut t.1, &mut t.2, after)
+    });
+    tally.call("TileZBoxes::into_iter, run to its end", &areas, ours, || (0, all(&areas).into_iter().collect()));
     let junk = junk(random, boxes.len(), |n| n as u32);
     let (number, count, memory) =
         lend(&junk, |out, places, count| unsafe { nori_zboxes_flipy(boxes.as_ptr(), boxes.len(), out, places, count) });
