@@ -432,8 +432,9 @@ NORI_NODISCARD uint8_t nori_zbox_next(uint8_t zoom, uint32_t minx, uint32_t maxx
 /* How many tiles the Rust's iterator says are left of a box: all of them, also behind the first
  * before ones.
  * Refused: 1, 10. */
-uint8_t nori_zbox_size_hint(uint8_t zoom, uint32_t minx, uint32_t maxx, uint32_t miny,
-                            uint32_t maxy, uint64_t before, uint64_t *length);
+NORI_NODISCARD uint8_t nori_zbox_size_hint(uint8_t zoom, uint32_t minx, uint32_t maxx,
+                                           uint32_t miny, uint32_t maxy, uint64_t before,
+                                           uint64_t *length);
 
 /* How many tiles several boxes have together, overlaps counted twice. Five numbers a box: zoom,
  * least x, greatest x, least y, greatest y.
@@ -451,8 +452,9 @@ NORI_NODISCARD uint8_t nori_zboxes_flipy(const uint32_t *boxes, size_t boxes_cou
  * before + 1. Each box's tiles come as nori_zbox_next gives them. Behind the last tile of all
  * the count is 0 and after is before. Five numbers a box, as for nori_zboxes_length.
  * Refused: 1, 6, 10. */
-uint8_t nori_zboxes_next(const uint32_t *boxes, size_t boxes_count, uint64_t before, uint8_t *count,
-                         uint32_t *tx, uint32_t *ty, uint8_t *tz, uint64_t *after);
+NORI_NODISCARD uint8_t nori_zboxes_next(const uint32_t *boxes, size_t boxes_count, uint64_t before,
+                                        uint8_t *count, uint32_t *tx, uint32_t *ty, uint8_t *tz,
+                                        uint64_t *after);
 
 /* ---------------------------------------------------------------------------------------------- */
 
