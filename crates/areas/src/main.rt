@@ -5,12 +5,16 @@ use form_stream::KEPT;
 use libc::STDERR_FILENO;
 use libc::STDIN_FILENO;
 use libc::STDOUT_FILENO;
+use libc::types::timespec;
 ghost use mathlib.Core.Path.{_≡_};
 ghost use Prim.Native.Nat.{suc, _<_};
 ghost use lib.ListN.{length, take};
 ghost use Rattle.areas.specs.LineSoFar.{Keeps};
 ghost use Rattle.constants.specs.Limits.{maxLine};
 ghost use Rattle.form_line.specs.Longest.{longest};
+
+// How long `pause` waits, in nanoseconds: a millisecond.
+const PAUSE: i64 = 1_000_000;
 
 // How far the input is taken in, or that nothing more can be written.
 enum Line {
@@ -102,8 +106,23 @@ fn write(bytes: &[u8]) -> bool {
 fn again() -> bool {
     let error = os::errno();
     if error == libc::EAGAIN {
-        libc::sched_yield();
+        pause();
         return true;
     }
     error == libc::EINTR
+}
+
+// Waits for the time of PAUSE, or less where a signal comes: a call that is tried again at once would keep a processor busy for as long
+// as there is nothing to read, or no room to write. The borrow checker covers no function that makes a reference to a struct: this one
+// is proved by hand, so that the others need not be.
+fn pause() {
+    let asked = timespec {
+        tv_sec: 0,
+        tv_nsec: PAUSE,
+    };
+    let mut left = timespec {
+        tv_sec: 0,
+        tv_nsec: 0,
+    };
+    libc::nanosleep(&asked, &mut left);
 }
