@@ -1,4 +1,3 @@
-pub mod Checked
 pub mod Children
 pub mod Laws
 pub mod Members

@@ -2,24 +2,25 @@
 use mathlib.Core.Path.{_≡_, refl, sym, ap, _∙_}
 use mathlib.Core.Logic.{_↔_}
 use mathlib.Core.List.{List, [], _∷_, _++_, map, flatMap, List·Memᴰ, List·Memᴰ·head, List·Memᴰ·tail}
-use mathlib.Core.Option.{Option, some, bind}
 use Prim.Native.Nat.{ℕ, suc, _+_, _-_, _*_, _/_, _%_, _^_, _≤_, _<_}
 use native.Mathlib.Nat.{div-one}
 use native.Mathlib.Omega.{arith}
 use lib.ListN.{length, take, drop, getD, length-map}
 use borrow.Author.Tests.{lt-ltb, le-ltb}
 use Rattle.bits.specs.Bits.{bit}
+use Rattle.bits.specs.Checked.{Run, returns, fits}
 use Rattle.constants.specs.Limits.{maxZoom}
 use Rattle.ids.specs.Entry.{entryOf, entryTile, entryRefusal, entry-accepted, entry-tile-again, entriesOf}
 use Rattle.ids.specs.Rmid.{levelStart}
 use Rattle.tile.specs.Given.{given}
 use Rattle.tile.specs.OnMap.{OnMap, tileAt, on-map-accepted}
+use Rattle.tile.specs.Rust.{To29}
 use Rattle.tile.specs.declared.OptionU8.{OptionU8}
 use Rattle.tile.specs.declared.Tile.{Tile}
 use Rattle.children.specs.Children.{clockwise, zOrder, gather, descendants, childrenOf}
 use Rattle.children.specs.Laws.{descend-length}
 use Rattle.children.specs.Members.{once-at, once-map, gather-part}
-use Rattle.children.specs.Queue.{descend-deeper, FindsChildren, queue-all, rust-clockwise, rust-z-order}
+use Rattle.children.specs.Queue.{descend-deeper, FindsChildren, queue-all, new-made, rust-clockwise, rust-z-order}
 use Rattle.children.specs.Rust.{rustClockwise, rustZOrder, rustDescend, rustChildren, rustChildrenZOrder}
 use Rattle.children.specs.Under.{Under, IsFamily, descend-under, under-descend, under-small, descend-once, in-either-order}
 
@@ -128,24 +129,22 @@ module _ (family : List ℕ) (size : length family ≡ 4) {x y z : ℕ} (m : OnM
   pub memory-too-short : length memory < 4 ^ (target - z) → childrenOf family x y z target memory ≡ record { number = 12; value = 0; memory = memory }
   memory-too-short l = rw (le-ltb _ _ h, on-map-accepted m, count, lt-ltb _ _ l)
 
--- The Rust is held to tiles of zoom 0 to 29 and targets to 29. On them nothing stops or wraps round, and after as many turns as the zooms
--- between have tiles, or more, its loop has ended with the descendants in our order.
-module _ (x y z : ℕ) (zoom : OptionU8) (turns : ℕ) (deep : z ≤ 29) (column : x < 2 ^ z) (row : y < 2 ^ z)
+-- The Rust is held to tiles of zoom 0 to 29 and targets to 29. On them no check fails, and after as many turns as the zooms between have
+-- tiles, or more, its loop has ended with the descendants in our order.
+module _ (x y z : ℕ) (zoom : OptionU8) (turns : ℕ) (on-map : To29 x y z)
     (target : given zoom (z + 1) ≤ 29) (enough : levelStart (given zoom (z + 1) - z) ≤ turns) where
-  descended : (family : List ℕ) → IsFamily family → length family ≡ 4 → (four : Tile → Option (List Tile)) → FindsChildren four family
-      → rustDescend four turns x y z zoom ≡ some (descendants family (given zoom (z + 1) - z) x y z)
-  unfolding bind
+  descended : (family : List ℕ) → IsFamily family → length family ≡ 4 → (four : Tile → Run (List Tile)) → FindsChildren four family
+      → rustDescend four turns x y z zoom ≡ returns (descendants family (given zoom (z + 1) - z) x y z)
   descended family f e four g =
-      let l : z + 1 < 2 ^ 8 = omega arith in
-      rw (lt-ltb _ _ l) (queue-all family f e four g (given zoom (z + 1)) target x y z column row turns enough)
+      let l : z + 1 < 2 ^ 8 = omega (arith, on-map .zoom) in
+      rw (fits 8 (z + 1) l, new-made x y z on-map) (queue-all family f e four g (given zoom (z + 1)) target x y z on-map turns enough)
 
-  pub rust-children : rustChildren turns x y z zoom ≡ some (descendants clockwise (given zoom (z + 1) - z) x y z)
+  pub rust-children : rustChildren turns x y z zoom ≡ returns (descendants clockwise (given zoom (z + 1) - z) x y z)
   rust-children = descended clockwise clockwise-is-a-family refl rustClockwise rust-clockwise
 
-  pub rust-children-zorder : rustChildrenZOrder turns x y z zoom ≡ some (descendants zOrder (given zoom (z + 1) - z) x y z)
+  pub rust-children-zorder : rustChildrenZOrder turns x y z zoom ≡ returns (descendants zOrder (given zoom (z + 1) - z) x y z)
   rust-children-zorder = descended zOrder z-order-is-a-family refl rustZOrder rust-z-order
 
 -- `children1_zorder`: the four tiles that the Rust names
-pub rust-children1-zorder : (x y z : ℕ) → z + 1 ≤ 29 → x < 2 ^ z → y < 2 ^ z
-    → rustZOrder (tileAt x y z) ≡ some (descendants zOrder (z + 1 - z) x y z)
-rust-children1-zorder x y z h c r = let e : z + 1 - z ≡ 1 = omega arith in rw e (rust-z-order (tileAt x y z) (omega arith) c r)
+pub rust-children1-zorder : (x y z : ℕ) → To29 x y z → z + 1 ≤ 29 → rustZOrder (tileAt x y z) ≡ returns (descendants zOrder (z + 1 - z) x y z)
+rust-children1-zorder x y z m h = let e : z + 1 - z ≡ 1 = omega arith in rw e (rust-z-order (tileAt x y z) (omega arith) m)

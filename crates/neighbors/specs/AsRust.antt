@@ -2,7 +2,6 @@
 use mathlib.Core.Path.{_≡_, refl, sym, ap}
 use mathlib.Core.Bool.{Bool, true, false, cond, _||_}
 use mathlib.Core.List.{List, [], _∷_, _++_, flatMap}
-use mathlib.Core.Option.{some}
 use Prim.Native.Nat.{ℕ, _+_, _-_, _/_, _%_, _^_, _≤_, _<_}
 use native.Mathlib.Decide.{decLt}
 use native.Mathlib.Nat.{add-mod-right, mod-eq-of-lt, mod-lt}
@@ -13,12 +12,15 @@ use lib.IntN.{ℤ, pos, negsuc, _+ℤ_}
 use lib.Pow.{pow-mono, pow-pos}
 use lib.Signed.{ltZ, leZ}
 use borrow.Author.Tests.{le-leb, lt-leb, le-ltb, lt-ltb, eqb-true, eqb-false}
+use Rattle.bits.specs.Checked.{returns, fits, minus-fits, one-shifted}
 use Rattle.children.specs.Children.{gather}
+use Rattle.children.specs.Rust.{vec}
 use Rattle.tile.specs.OnMap.{tileAt}
+use Rattle.tile.specs.Rust.{To29, rustAlong}
+use Rattle.tile.specs.declared.Step.the-variants.{Back, On}
 use Rattle.tile.specs.declared.Tile.{Tile}
 use Rattle.neighbors.specs.Neighbors.{around, aroundWrapped, inside, near, nearWrapped}
-use Rattle.neighbors.specs.Rust.{plus1, minus1, computed, rustTiles, neighborsArm}
-use Rattle.neighbors.specs.Rust.{remEuclid, asU32, plusI64, shifted, filtered, wrapSteps, wrapTiles, armBy, place, tilesAt, kept, struck}
+use Rattle.neighbors.specs.Rust.{rustTiles, neighborsArm, remEuclid, asU32, plusI64, wrapStep, wrapSteps, wrapTiles, armBy, tilesAt, kept, struck}
 use Rattle.neighbors.specs.Laws.{below-one, near-off-row}
 
 -- where all tiles are on the map, none is struck out
@@ -38,11 +40,11 @@ pub side-most : {z : ℕ} → z ≤ 29 → 2 ^ z ≤ 2 ^ 29
 side-most h = pow-mono {j = 29} h
 
 -- n + 1, and n - 1 where n is not 0
-next : (n : ℕ) → n < 2 ^ 29 → computed plus1 n ≡ some (n + 1)
-next n h = let l : n + 1 < 2 ^ 32 = omega arith in rw (lt-ltb _ _ l)
+pub next : (n : ℕ) → n < 2 ^ 29 → rustAlong On n ≡ returns (n + 1)
+next n h = fits 32 (n + 1) (omega arith)
 
-last : (n : ℕ) → eqb n 0 ≡ false → computed minus1 n ≡ some (n - 1)
-last n e = let l : 1 ≤ n = omega (arith, eqb-false n 0 e) in rw (le-ltb _ _ l)
+last : (n : ℕ) → eqb n 0 ≡ false → rustAlong Back n ≡ returns (n - 1)
+last n e = minus-fits n 1 (omega (arith, eqb-false n 0 e))
 
 -- a place of the square by the tile that stands there; left of column 0 and above row 0 there is none
 module _ (x y z : ℕ) where
@@ -77,7 +79,7 @@ module _ (x y z : ℕ) where
 
   -- the four arms that a tile of the map may take
   pub arm-struck : (a : Bool) → eqb x 0 ≡ a → (b : Bool) → eqb y 0 ≡ b → struck (tilesAt (neighborsArm (armBy a b)) x y z) ≡ gather (near x y z) around
-  unfolding flatMap tilesAt
+  unfolding flatMap
   arm-struck true p true q =
       let e = eqb-true x 0 p in
       let f = eqb-true y 0 q in
@@ -97,7 +99,7 @@ module _ (x y z : ℕ) where
 
   -- away from the right and bottom edges an arm's tiles are on the map
   pub arm-within : (a b : Bool) → x < 2 ^ z - 1 → y < 2 ^ z - 1 → Within (tilesAt (neighborsArm (armBy a b)) x y z)
-  unfolding Within tilesAt
+  unfolding Within
   arm-within true true h k = omega arith
   arm-within true false h k = omega arith
   arm-within false true h k = omega arith
@@ -105,8 +107,8 @@ module _ (x y z : ℕ) where
 
   -- and all of them are computed, since a column or row before the tile's is asked for only where it is not 0
   pub arm-fits : (a : Bool) → eqb x 0 ≡ a → (b : Bool) → eqb y 0 ≡ b → x < 2 ^ 29 → y < 2 ^ 29
-      → rustTiles (neighborsArm (armBy a b)) x y z ≡ some (tilesAt (neighborsArm (armBy a b)) x y z)
-  unfolding rustTiles tilesAt
+      → rustTiles (neighborsArm (armBy a b)) x y z ≡ returns (tilesAt (neighborsArm (armBy a b)) x y z)
+  unfolding vec
   arm-fits true p true q h k = rw (next x h, next y k)
   arm-fits true p false q h k = rw (next x h, next y k, last y q)
   arm-fits false p true q h k = rw (next x h, next y k, last x p)
@@ -142,7 +144,7 @@ wrapped-column {d} {s} p x side h = pick (decLt 0 (x + s))
         rw (below-zero p x e, f, mod-eq-of-lt l, mod-eq-of-lt m, g)
 
 -- neither sum leaves 64 bits
-sum-fits : {d : ℤ} {s : ℕ} → Means d s → (n : ℕ) → n < 2 ^ 29 → plusI64 (pos n) d ≡ some (pos n +ℤ d)
+sum-fits : {d : ℤ} {s : ℕ} → Means d s → (n : ℕ) → n < 2 ^ 29 → plusI64 (pos n) d ≡ returns (pos n +ℤ d)
 sum-fits {d} {s} p n h = pick (decLt 0 (n + s))
   where
     step : {d : ℤ} {s : ℕ} → Means d s → s ≤ 2
@@ -150,7 +152,7 @@ sum-fits {d} {s} p n h = pick (decLt 0 (n + s))
     step stay = omega arith
     step on = omega arith
 
-    pick : Dec (0 < n + s) → plusI64 (pos n) d ≡ some (pos n +ℤ d)
+    pick : Dec (0 < n + s) → plusI64 (pos n) d ≡ returns (pos n +ℤ d)
     pick (yes k) = let l : n + s - 1 < 2 ^ 63 = omega (arith, step p) in rw (signed-sum p n k, lt-ltb _ _ l)
     pick (no k) = rw (below-zero p n (omega arith))
 
@@ -179,24 +181,20 @@ wrapped-row {d} {s} p y side t b = pick (decLt 0 (y + s))
         rw (below-zero p y e, below-one side y s l)
 
 -- one step, and all eight, of a tile of zoom 0 to 29
-module _ (x y z : ℕ) (deep : z ≤ 29) (column : x < 2 ^ z) (row : y < 2 ^ z) where
-  wrapped-step : (s : ℕ) {dx dy : ℤ} → Means dx (s / 3) → Means dy (s % 3)
-      → filtered (2 ^ z) z (plusI64 (pos x) dx) (plusI64 (pos y) dy) ≡ some (nearWrapped x y z s)
+module _ (x y z : ℕ) (on-map : To29 x y z) where
+  wrapped-step : (s : ℕ) {dx dy : ℤ} → Means dx (s / 3) → Means dy (s % 3) → wrapStep (2 ^ z) x y z (dx, dy) ≡ returns (nearWrapped x y z s)
   wrapped-step s {dx} {dy} p q =
-      let m = side-most deep in
-      let c : remEuclid (pos x +ℤ dx) (2 ^ z) ≡ (x + s / 3 + 2 ^ z - 1) % 2 ^ z = wrapped-column p x (2 ^ z) column in
+      let m = side-most (on-map .zoom) in
+      let c : remEuclid (pos x +ℤ dx) (2 ^ z) ≡ (x + s / 3 + 2 ^ z - 1) % 2 ^ z = wrapped-column p x (2 ^ z) (on-map .column) in
       let l : (x + s / 3 + 2 ^ z - 1) % 2 ^ z < 2 ^ 32 = omega (arith, mod-lt (x + s / 3 + 2 ^ z - 1) (pow-pos z)) in
-      rw (sum-fits p x (omega arith), sum-fits q y (omega arith), c, mod-eq-of-lt l)
-      (ap some (wrapped-row q y (2 ^ z) (λ r. tileAt ((x + s / 3 + 2 ^ z - 1) % 2 ^ z) r z) m))
+      rw (sum-fits p x (omega (arith, on-map .column)), sum-fits q y (omega (arith, on-map .row)), c, mod-eq-of-lt l)
+      (ap returns (wrapped-row q y (2 ^ z) (λ r. tileAt ((x + s / 3 + 2 ^ z - 1) % 2 ^ z) r z) m))
 
-  pub wrapped-square : wrapTiles (shifted z) x y z ≡ some (gather (nearWrapped x y z) aroundWrapped)
+  pub wrapped-square : wrapTiles x y z ≡ returns (gather (nearWrapped x y z) aroundWrapped)
   unfolding wrapSteps gather
   wrapped-square =
-      let l : z < 32 = omega arith in
-      let m : 2 ^ z < 2 ^ 32 = omega (arith, side-most deep) in
       rw (
-        lt-ltb _ _ l,
-        mod-eq-of-lt m,
+        one-shifted 32 z (omega (arith, on-map .zoom)),
         wrapped-step 0 back back,
         wrapped-step 1 back stay,
         wrapped-step 2 back on,

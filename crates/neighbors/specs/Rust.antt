@@ -1,40 +1,33 @@
--- What the Rust does for the tiles beside a tile, as functions on values in its own widths: 32 bits for x and y, 64 with a sign for the
--- steps of `neighbors_wrap_x`. None is where checked arithmetic stops.
+-- What the Rust does for the tiles beside a tile, as functions on values in its own widths and with the checks of its arithmetic: 32 bits
+-- for x and y, 64 with a sign for the steps of `neighbors_wrap_x`.
 use mathlib.Core.Bool.{Bool, true, false, cond, _&&_, _||_}
-use mathlib.Core.List.{List, [], _∷_, _++_, flatMap}
-use mathlib.Core.Option.{Option, none, some}
-use Prim.Native.Nat.{ℕ, zero, suc, _+_, _-_, _%_, _^_}
+use mathlib.Core.List.{List, [], _∷_, _++_, map, flatMap}
+use Prim.Native.Nat.{ℕ, zero, suc, _-_, _%_, _^_}
 use lib.Dec.{eqb, ltb}
 use lib.IntN.{ℤ, pos, negsuc, _+ℤ_}
 use lib.Signed.{mag, ltZ, leZ}
-use Rattle.children.specs.Checked.{fitting, plus, minus, utile, pushed}
+use Rattle.bits.specs.Checked.{Run, returns, _then_, only, power, shiftUp}
+use Rattle.children.specs.Rust.{vec}
 use Rattle.tile.specs.OnMap.{tileAt}
+use Rattle.tile.specs.Rust.{rustStep}
+use Rattle.tile.specs.Steps.{stepped}
+use Rattle.tile.specs.declared.Step.{Step}
+use Rattle.tile.specs.declared.Step.the-variants.{Back, Stay, On}
 use Rattle.tile.specs.declared.Tile.{Tile}
 
--- what the Rust writes for a column or a row beside n: n + 1, n or n - 1
-pub data Term : Type 0 where
-  plus1 : Term
-  same : Term
-  minus1 : Term
-
-abbrev pub computed : Term → ℕ → Option ℕ
-computed plus1 n = plus 32 (some n) 1
-computed same n = some n
-computed minus1 n = minus (some n) 1
-
--- `vec![utile!(x + 1, y, z), ..]`, by the terms in x and in y
-unfoldable pub rustTiles : List (Term × Term) → ℕ → ℕ → ℕ → Option (List Tile)
-rustTiles [] x y z = some []
-rustTiles (t ∷ ts) x y z = pushed (utile (computed (t .0) x) (computed (t .1) y) (some z)) (rustTiles ts x y z)
+-- `vec![utile!(x + 1, y, z), ..]`, by the steps in x and in y: On is n + 1, Stay n and Back n - 1. `utile!` is taken without its debug
+-- assertion, since past the right and bottom edges, and at zoom 0, the Rust names tiles off the map.
+abbrev pub rustTiles : List (Step × Step) → ℕ → ℕ → ℕ → Run (List Tile)
+rustTiles steps x y z = vec (map (λ (s : Step × Step). rustStep (s .0) (s .1) (tileAt x y z)) steps)
 
 -- the four arms of `siblings`, by whether the tile is in its family's left column and in its top row
-abbrev pub siblingsArm : Bool → Bool → List (Term × Term)
-siblingsArm true true = (plus1, same) ∷ (same, plus1) ∷ (plus1, plus1) ∷ []
-siblingsArm false true = (minus1, same) ∷ (same, plus1) ∷ (minus1, plus1) ∷ []
-siblingsArm true false = (plus1, same) ∷ (same, minus1) ∷ (plus1, minus1) ∷ []
-siblingsArm false false = (minus1, same) ∷ (same, minus1) ∷ (minus1, minus1) ∷ []
+abbrev pub siblingsArm : Bool → Bool → List (Step × Step)
+siblingsArm true true = (On, Stay) ∷ (Stay, On) ∷ (On, On) ∷ []
+siblingsArm false true = (Back, Stay) ∷ (Stay, On) ∷ (Back, On) ∷ []
+siblingsArm true false = (On, Stay) ∷ (Stay, Back) ∷ (On, Back) ∷ []
+siblingsArm false false = (Back, Stay) ∷ (Stay, Back) ∷ (Back, Back) ∷ []
 
-abbrev pub rustSiblings : ℕ → ℕ → ℕ → Option (List Tile)
+abbrev pub rustSiblings : ℕ → ℕ → ℕ → Run (List Tile)
 rustSiblings x y z = rustTiles (siblingsArm (eqb (x % 2) 0) (eqb (y % 2) 0)) x y z
 
 pub data TileEdgeInfo : Type 0 where
@@ -59,43 +52,37 @@ edgeBy x0 y0 xmax ymax =
     (cond y0 Top
     (cond ymax Bottom Middle))))))
 
-abbrev pub edgeAt : ℕ → ℕ → Option ℕ → Option TileEdgeInfo
-edgeAt x y none = none
-edgeAt x y (some max) = some (edgeBy (eqb x 0) (eqb y 0) (eqb x max) (eqb y max))
-
 -- `2u32.pow(z)` is computed after the first test
-abbrev pub rustEdge : ℕ → ℕ → ℕ → Option TileEdgeInfo
-rustEdge x y z = cond (eqb x 0 && eqb y 0) (some TopLeft) (edgeAt x y (fitting 32 (2 ^ z)))
+abbrev pub rustEdge : ℕ → ℕ → ℕ → Run TileEdgeInfo
+rustEdge x y z =
+    cond (eqb x 0 && eqb y 0) (returns TopLeft)
+    (power 32 2 z then λ max. returns (edgeBy (eqb x 0) (eqb y 0) (eqb x max) (eqb y max)))
 
 -- the nine arms of `neighbors`, each in its order
-abbrev pub neighborsArm : TileEdgeInfo → List (Term × Term)
+abbrev pub neighborsArm : TileEdgeInfo → List (Step × Step)
 neighborsArm Middle =
-    (plus1, same)
-    ∷ (same, plus1)
-    ∷ (plus1, plus1)
-    ∷ (minus1, same)
-    ∷ (same, minus1)
-    ∷ (minus1, minus1)
-    ∷ (plus1, minus1)
-    ∷ (minus1, plus1)
+    (On, Stay)
+    ∷ (Stay, On)
+    ∷ (On, On)
+    ∷ (Back, Stay)
+    ∷ (Stay, Back)
+    ∷ (Back, Back)
+    ∷ (On, Back)
+    ∷ (Back, On)
     ∷ []
-neighborsArm TopLeft = (plus1, same) ∷ (same, plus1) ∷ (plus1, plus1) ∷ []
-neighborsArm TopRight = (minus1, same) ∷ (same, plus1) ∷ (minus1, plus1) ∷ []
-neighborsArm BottomLeft = (plus1, same) ∷ (same, minus1) ∷ (plus1, minus1) ∷ []
-neighborsArm BottomRight = (minus1, same) ∷ (same, minus1) ∷ (minus1, minus1) ∷ []
-neighborsArm Left = (plus1, same) ∷ (same, plus1) ∷ (plus1, plus1) ∷ (same, minus1) ∷ (plus1, minus1) ∷ []
-neighborsArm Right = (minus1, same) ∷ (same, plus1) ∷ (minus1, plus1) ∷ (same, minus1) ∷ (minus1, minus1) ∷ []
-neighborsArm Top = (plus1, same) ∷ (same, plus1) ∷ (plus1, plus1) ∷ (minus1, same) ∷ (minus1, plus1) ∷ []
-neighborsArm Bottom = (plus1, same) ∷ (same, minus1) ∷ (plus1, minus1) ∷ (minus1, same) ∷ (minus1, minus1) ∷ []
+neighborsArm TopLeft = (On, Stay) ∷ (Stay, On) ∷ (On, On) ∷ []
+neighborsArm TopRight = (Back, Stay) ∷ (Stay, On) ∷ (Back, On) ∷ []
+neighborsArm BottomLeft = (On, Stay) ∷ (Stay, Back) ∷ (On, Back) ∷ []
+neighborsArm BottomRight = (Back, Stay) ∷ (Stay, Back) ∷ (Back, Back) ∷ []
+neighborsArm Left = (On, Stay) ∷ (Stay, On) ∷ (On, On) ∷ (Stay, Back) ∷ (On, Back) ∷ []
+neighborsArm Right = (Back, Stay) ∷ (Stay, On) ∷ (Back, On) ∷ (Stay, Back) ∷ (Back, Back) ∷ []
+neighborsArm Top = (On, Stay) ∷ (Stay, On) ∷ (On, On) ∷ (Back, Stay) ∷ (Back, On) ∷ []
+neighborsArm Bottom = (On, Stay) ∷ (Stay, Back) ∷ (On, Back) ∷ (Back, Stay) ∷ (Back, Back) ∷ []
 
-abbrev pub armTiles : Option TileEdgeInfo → ℕ → ℕ → ℕ → Option (List Tile)
-armTiles none x y z = none
-armTiles (some kind) x y z = rustTiles (neighborsArm kind) x y z
-
-abbrev pub rustNeighbors : ℕ → ℕ → ℕ → Option (List Tile)
-rustNeighbors x y zero = some []
+abbrev pub rustNeighbors : ℕ → ℕ → ℕ → Run (List Tile)
+rustNeighbors x y zero = returns []
 rustNeighbors x y (suc zero) = rustSiblings x y 1
-rustNeighbors x y (suc (suc z)) = armTiles (rustEdge x y (suc (suc z))) x y (suc (suc z))
+rustNeighbors x y (suc (suc z)) = rustEdge x y (suc (suc z)) then λ kind. rustTiles (neighborsArm kind) x y (suc (suc z))
 
 -- `rem_euclid` of a signed number by a positive one
 abbrev pub remEuclid : ℤ → ℕ → ℕ
@@ -106,12 +93,9 @@ remEuclid (negsuc n) m = m - 1 - n % m
 abbrev pub asU32 : ℤ → ℕ
 asU32 n = remEuclid n (2 ^ 32)
 
--- a sum of `i64`s, and `1u32 << z`
-abbrev pub plusI64 : ℤ → ℤ → Option ℤ
-plusI64 a b = cond (ltb (mag (a +ℤ b)) (2 ^ 63)) (some (a +ℤ b)) none
-
-abbrev pub shifted : ℕ → Option ℕ
-shifted z = cond (ltb z 32) (some (2 ^ z % 2 ^ 32)) none
+-- a sum of `i64`s
+abbrev pub plusI64 : ℤ → ℤ → Run ℤ
+plusI64 a b = only (ltb (mag (a +ℤ b)) (2 ^ 63)) (a +ℤ b)
 
 -- NEIGHBOR_IDXS: a step in x and a step in y
 abbrev pub neighborIdxs : List (ℤ × ℤ)
@@ -127,29 +111,24 @@ neighborIdxs =
     ∷ []
 
 -- what the filter of `neighbors_wrap_x` makes of one of them: nothing off the top or bottom edge
-abbrev pub filtered : ℕ → ℕ → Option ℤ → Option ℤ → Option (List Tile)
-filtered side z none ny = none
-filtered side z (some nx) none = none
-filtered side z (some nx) (some ny) =
-    some (cond (ltZ ny (pos 0) || leZ (pos side) ny) [] (tileAt (asU32 (pos (remEuclid nx side))) (asU32 ny) z ∷ []))
+abbrev pub filtered : ℕ → ℕ → ℤ → ℤ → List Tile
+filtered side z nx ny = cond (ltZ ny (pos 0) || leZ (pos side) ny) [] (tileAt (asU32 (pos (remEuclid nx side))) (asU32 ny) z ∷ [])
 
-abbrev pub joined : Option (List Tile) → Option (List Tile) → Option (List Tile)
-joined none b = none
-joined (some a) none = none
-joined (some a) (some b) = some (a ++ b)
+abbrev pub wrapStep : ℕ → ℕ → ℕ → ℕ → ℤ × ℤ → Run (List Tile)
+wrapStep side x y z d = plusI64 (pos x) (d .0) then λ nx. plusI64 (pos y) (d .1) then λ ny. returns (filtered side z nx ny)
 
-unfoldable pub wrapSteps : ℕ → ℕ → ℕ → ℕ → List (ℤ × ℤ) → Option (List Tile)
-wrapSteps side x y z [] = some []
-wrapSteps side x y z (d ∷ ds) = joined (filtered side z (plusI64 (pos x) (d .0)) (plusI64 (pos y) (d .1))) (wrapSteps side x y z ds)
+unfoldable pub wrapSteps : ℕ → ℕ → ℕ → ℕ → List (ℤ × ℤ) → Run (List Tile)
+wrapSteps side x y z [] = returns []
+wrapSteps side x y z (d ∷ ds) = wrapStep side x y z d then λ a. wrapSteps side x y z ds then λ b. returns (a ++ b)
 
-abbrev pub wrapTiles : Option ℕ → ℕ → ℕ → ℕ → Option (List Tile)
-wrapTiles none x y z = none
-wrapTiles (some side) x y z = wrapSteps side x y z neighborIdxs
+-- `1u32 << z` is computed first
+abbrev pub wrapTiles : ℕ → ℕ → ℕ → Run (List Tile)
+wrapTiles x y z = shiftUp 32 1 z then λ side. wrapSteps side x y z neighborIdxs
 
-abbrev pub rustNeighborsWrapX : ℕ → ℕ → ℕ → Option (List Tile)
-rustNeighborsWrapX x y zero = some []
+abbrev pub rustNeighborsWrapX : ℕ → ℕ → ℕ → Run (List Tile)
+rustNeighborsWrapX x y zero = returns []
 rustNeighborsWrapX x y (suc zero) = rustSiblings x y 1
-rustNeighborsWrapX x y (suc (suc z)) = wrapTiles (shifted (suc (suc z))) x y (suc (suc z))
+rustNeighborsWrapX x y (suc (suc z)) = wrapTiles x y (suc (suc z))
 
 -- the kind that a tile of the map is taken for, by whether x is 0 and whether y is
 abbrev pub armBy : Bool → Bool → TileEdgeInfo
@@ -162,14 +141,8 @@ abbrev pub armOf : ℕ → ℕ → TileEdgeInfo
 armOf x y = armBy (eqb x 0) (eqb y 0)
 
 -- an arm's list in unbounded numbers
-abbrev pub place : Term → ℕ → ℕ
-place plus1 n = n + 1
-place same n = n
-place minus1 n = n - 1
-
-unfoldable pub tilesAt : List (Term × Term) → ℕ → ℕ → ℕ → List Tile
-tilesAt [] x y z = []
-tilesAt (t ∷ ts) x y z = tileAt (place (t .0) x) (place (t .1) y) z ∷ tilesAt ts x y z
+abbrev pub tilesAt : List (Step × Step) → ℕ → ℕ → ℕ → List Tile
+tilesAt steps x y z = map (λ (s : Step × Step). tileAt (stepped (s .0) x) (stepped (s .1) y) z) steps
 
 -- "that arm's list with off-map tiles struck out"
 abbrev pub kept : Tile → List Tile

@@ -3,49 +3,51 @@ use mathlib.Core.Path.{_≡_, refl, sym, ap, _∙_}
 use mathlib.Core.Bool.{Bool, true, false, cond, _&&_}
 use mathlib.Core.Logic.{_↔_, _⊎_, inl, inr}
 use mathlib.Core.List.{[], _∷_, List·Memᴰ, List·Memᴰ·head, List·Memᴰ·tail, List·Memᴰ·not-nil, List·Memᴰ·cases-cons, List·Memᴰ·eq-of-singleton, List·Nodup, Pairwise·nil}
-use mathlib.Core.Option.{Option·map, some}
 use Prim.Native.Nat.{ℕ, zero, suc, _+_, _-_, _*_, _/_, _%_, _^_, _≤_, _<_}
 use native.Mathlib.Nat.{pow-suc}
 use native.Mathlib.Omega.{arith}
 use lib.Dec.{eqb}
 use lib.Pow.{pow-pos}
-use borrow.Author.Tests.{lt-ltb, le-ltb, eqb-true, eqb-false, ne-eqb}
+use borrow.Author.Tests.{eqb-true, eqb-false, ne-eqb}
+use Rattle.bits.specs.Checked.{returns, read, fits, minus-fits}
 use Rattle.children.specs.Members.{in-gather, into-gather, once-more}
 use Rattle.children.specs.Children.{gather}
+use Rattle.children.specs.Rust.{vec}
 use Rattle.tile.specs.OnMap.{OnMap, tileAt}
 use Rattle.tile.specs.Order.{tile-ext}
+use Rattle.tile.specs.Rust.{To29, rustAlong}
+use Rattle.tile.specs.Theorems.{power-fits}
+use Rattle.tile.specs.declared.Step.the-variants.{Back, On}
 use Rattle.tile.specs.declared.Tile.{Tile}
 use Rattle.neighbors.specs.Neighbors.{other, siblingsOf, around, near, nearOf, orderOf, neighborsOf}
 use Rattle.neighbors.specs.Laws.{neighbors-deep}
-use Rattle.neighbors.specs.AsRust.{side-most, none-struck, arm-struck, arm-within, arm-fits, wrapped-square}
+use Rattle.neighbors.specs.AsRust.{side-most, next, none-struck, arm-struck, arm-within, arm-fits, wrapped-square}
 use Rattle.neighbors.specs.Members.{around-place, place-around, Placed, near-placed, placed-near, mem-on-map, place-back, place-self, around-once}
-use Rattle.neighbors.specs.Rust.{plus1, minus1, computed, rustTiles, siblingsArm, rustSiblings}
+use Rattle.neighbors.specs.Rust.{rustTiles, siblingsArm, rustSiblings}
 use Rattle.neighbors.specs.Rust.{TopLeft, edgeBy, rustEdge, neighborsArm, rustNeighbors, rustNeighborsWrapX, armBy, armOf, tilesAt, struck}
 
--- The Rust is held to tiles of zoom 0 to 29. On them nothing stops or wraps round.
+-- The Rust is held to tiles of zoom 0 to 29. On them no check fails.
 
 -- "`siblings` in the Rust's order": its four arms are one list
-pub rust-siblings : (x y z : ℕ) → z ≤ 29 → x < 2 ^ z → y < 2 ^ z → rustSiblings x y z ≡ some (siblingsOf x y z)
-unfolding rustTiles
-rust-siblings x y z d h k = pick (eqb (x % 2) 0) refl (eqb (y % 2) 0) refl
+pub rust-siblings : (x y z : ℕ) → To29 x y z → rustSiblings x y z ≡ returns (siblingsOf x y z)
+unfolding vec
+rust-siblings x y z m = pick (eqb (x % 2) 0) refl (eqb (y % 2) 0) refl
   where
-    next : (n : ℕ) → n < 2 ^ z → eqb (n % 2) 0 ≡ true → computed plus1 n ≡ some (other n)
-    next n l e =
-        let f : n + 1 < 2 ^ 32 = omega (arith, side-most d) in
-        let g : n + 1 ≡ other n = omega (arith, eqb-true (n % 2) 0 e) in
-        rw (lt-ltb _ _ f) (ap some g)
+    even : (n : ℕ) → n < 2 ^ z → eqb (n % 2) 0 ≡ true → rustAlong On n ≡ returns (other n)
+    even n l e =
+        let f : n + 1 ≡ other n = omega (arith, eqb-true (n % 2) 0 e) in
+        next n (omega (arith, side-most (m .zoom))) ∙ ap returns f
 
-    last : (n : ℕ) → eqb (n % 2) 0 ≡ false → computed minus1 n ≡ some (other n)
-    last n e =
-        let f : 1 ≤ n = omega (arith, eqb-false (n % 2) 0 e) in
-        let g : n - 1 ≡ other n = omega (arith, eqb-false (n % 2) 0 e) in
-        rw (le-ltb _ _ f) (ap some g)
+    odd : (n : ℕ) → eqb (n % 2) 0 ≡ false → rustAlong Back n ≡ returns (other n)
+    odd n e =
+        let f : n - 1 ≡ other n = omega (arith, eqb-false (n % 2) 0 e) in
+        minus-fits n 1 (omega (arith, eqb-false (n % 2) 0 e)) ∙ ap returns f
 
-    pick : (a : Bool) → eqb (x % 2) 0 ≡ a → (b : Bool) → eqb (y % 2) 0 ≡ b → rustTiles (siblingsArm a b) x y z ≡ some (siblingsOf x y z)
-    pick true p true q = rw (next x h p, next y k q)
-    pick true p false q = rw (next x h p, last y q)
-    pick false p true q = rw (last x p, next y k q)
-    pick false p false q = rw (last x p, last y q)
+    pick : (a : Bool) → eqb (x % 2) 0 ≡ a → (b : Bool) → eqb (y % 2) 0 ≡ b → rustTiles (siblingsArm a b) x y z ≡ returns (siblingsOf x y z)
+    pick true p true q = rw (even x (m .column) p, even y (m .row) q)
+    pick true p false q = rw (even x (m .column) p, odd y q)
+    pick false p true q = rw (odd x p, even y (m .row) q)
+    pick false p false q = rw (odd x p, odd y q)
 
 -- siblings are just the other tiles of the family: those of the tile's zoom with its parent
 pub record Sibling (x y z : ℕ) (t : Tile) : Type 0 where
@@ -105,19 +107,20 @@ each-sibling-once x y z = once-more first (once-more second (once-more List·Mem
     first m = pick (List·Memᴰ·cases-cons m)
 
 -- "`neighbors`: zoom 0 none, zoom 1 the siblings. Both are compared throughout."
-pub rust-neighbors-zoom-0 : (x y : ℕ) → rustNeighbors x y 0 ≡ some (neighborsOf false x y 0)
+pub rust-neighbors-zoom-0 : (x y : ℕ) → rustNeighbors x y 0 ≡ returns (neighborsOf false x y 0)
 rust-neighbors-zoom-0 x y = refl
 
-pub rust-neighbors-zoom-1 : (x y : ℕ) → x < 2 ^ 1 → y < 2 ^ 1 → rustNeighbors x y 1 ≡ some (neighborsOf false x y 1)
-rust-neighbors-zoom-1 x y = rust-siblings x y 1 (omega arith)
+pub rust-neighbors-zoom-1 : (x y : ℕ) → To29 x y 1 → rustNeighbors x y 1 ≡ returns (neighborsOf false x y 1)
+rust-neighbors-zoom-1 x y = rust-siblings x y 1
 
 -- "From zoom 2 `tile_edge_info` compares with 2^z, so a tile on the right or bottom edge is taken for another kind": of the nine only four are met
-pub the-kinds-of-the-map : (x y z : ℕ) → z ≤ 29 → x < 2 ^ z → y < 2 ^ z → rustEdge x y z ≡ some (armOf x y)
-the-kinds-of-the-map x y z d h k =
-    let l : 2 ^ z < 2 ^ 32 = omega (arith, side-most d) in
-    rw (lt-ltb _ _ l, ne-eqb x (2 ^ z) (λ e. omega arith), ne-eqb y (2 ^ z) (λ e. omega arith)) (pick (eqb x 0) (eqb y 0))
+pub the-kinds-of-the-map : (x y z : ℕ) → To29 x y z → rustEdge x y z ≡ returns (armOf x y)
+the-kinds-of-the-map x y z m =
+    let c = m .column in
+    let r = m .row in
+    rw (fits 32 (2 ^ z) (power-fits (m .zoom)), ne-eqb x (2 ^ z) (λ e. omega arith), ne-eqb y (2 ^ z) (λ e. omega arith)) (pick (eqb x 0) (eqb y 0))
   where
-    pick : (a b : Bool) → cond (a && b) (some TopLeft) (some (edgeBy a b false false)) ≡ some (armBy a b)
+    pick : (a b : Bool) → cond (a && b) (returns TopLeft) (returns (edgeBy a b false false)) ≡ returns (armBy a b)
     pick true true = refl
     pick true false = refl
     pick false true = refl
@@ -129,30 +132,29 @@ that-arms-list-struck-out x y z d =
     arm-struck x y z (eqb x 0) refl (eqb y 0) refl ∙ sym (neighbors-deep false x y z (λ e. omega arith) (λ e. omega arith))
 
 -- the list that the Rust gives is that of the arm
-pub the-rusts-arm : (x y z : ℕ) → 2 ≤ z → z ≤ 29 → x < 2 ^ z → y < 2 ^ z
-    → rustNeighbors x y z ≡ some (tilesAt (neighborsArm (armOf x y)) x y z)
-the-rusts-arm x y zero d e h k = absurd (omega arith)
-the-rusts-arm x y (suc zero) d e h k = absurd (omega arith)
-the-rusts-arm x y (suc (suc z)) d e h k =
-    let s = side-most e in
-    rw (the-kinds-of-the-map x y (suc (suc z)) e h k) (arm-fits x y (suc (suc z)) (eqb x 0) refl (eqb y 0) refl (omega arith) (omega arith))
+pub the-rusts-arm : (x y z : ℕ) → To29 x y z → 2 ≤ z → rustNeighbors x y z ≡ returns (tilesAt (neighborsArm (armOf x y)) x y z)
+the-rusts-arm x y zero m d = absurd (omega arith)
+the-rusts-arm x y (suc zero) m d = absurd (omega arith)
+the-rusts-arm x y (suc (suc z)) m d =
+    let s = side-most (m .zoom) in
+    rw (the-kinds-of-the-map x y (suc (suc z)) m)
+    (arm-fits x y (suc (suc z)) (eqb x 0) refl (eqb y 0) refl (omega (arith, m .column)) (omega (arith, m .row)))
 
-pub rust-neighbors-struck-out : (x y z : ℕ) → 2 ≤ z → z ≤ 29 → x < 2 ^ z → y < 2 ^ z
-    → Option·map struck (rustNeighbors x y z) ≡ some (neighborsOf false x y z)
-rust-neighbors-struck-out x y z d e h k = rw (the-rusts-arm x y z d e h k) (ap some (that-arms-list-struck-out x y z d))
+pub rust-neighbors-struck-out : (x y z : ℕ) → To29 x y z → 2 ≤ z → read struck (rustNeighbors x y z) ≡ returns (neighborsOf false x y z)
+rust-neighbors-struck-out x y z m d = rw (the-rusts-arm x y z m d) (ap returns (that-arms-list-struck-out x y z d))
 
 -- "There the Rust is compared for x and y below 2^z − 1"
-pub rust-neighbors : (x y z : ℕ) → 2 ≤ z → z ≤ 29 → x < 2 ^ z - 1 → y < 2 ^ z - 1 → rustNeighbors x y z ≡ some (neighborsOf false x y z)
+pub rust-neighbors : (x y z : ℕ) → 2 ≤ z → z ≤ 29 → x < 2 ^ z - 1 → y < 2 ^ z - 1 → rustNeighbors x y z ≡ returns (neighborsOf false x y z)
 rust-neighbors x y z d e h k =
     let arm = tilesAt (neighborsArm (armOf x y)) x y z in
-    the-rusts-arm x y z d e (omega arith) (omega arith)
-    ∙ ap some (sym (none-struck arm (arm-within x y z (eqb x 0) (eqb y 0) h k)) ∙ that-arms-list-struck-out x y z d)
+    the-rusts-arm x y z (record { zoom = e; column = omega arith; row = omega arith }) d
+    ∙ ap returns (sym (none-struck arm (arm-within x y z (eqb x 0) (eqb y 0) h k)) ∙ that-arms-list-struck-out x y z d)
 
 -- "`neighbors_wrap_x`, `flipy` as in the Rust."
-pub rust-neighbors-wrap-x : (x y z : ℕ) → z ≤ 29 → x < 2 ^ z → y < 2 ^ z → rustNeighborsWrapX x y z ≡ some (neighborsOf true x y z)
-rust-neighbors-wrap-x x y zero d h k = refl
-rust-neighbors-wrap-x x y (suc zero) d h k = rust-siblings x y 1 d h k
-rust-neighbors-wrap-x x y (suc (suc z)) d h k = wrapped-square x y (suc (suc z)) d h k
+pub rust-neighbors-wrap-x : (x y z : ℕ) → To29 x y z → rustNeighborsWrapX x y z ≡ returns (neighborsOf true x y z)
+rust-neighbors-wrap-x x y zero m = refl
+rust-neighbors-wrap-x x y (suc zero) m = rust-siblings x y 1 m
+rust-neighbors-wrap-x x y (suc (suc z)) m = wrapped-square x y (suc (suc z)) m
 
 -- a tile of the map beside (x, y, z): of its zoom, at most one column and one row away, and not that tile
 pub record Beside (x y z : ℕ) (t : Tile) : Type 0 where
