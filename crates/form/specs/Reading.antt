@@ -58,7 +58,7 @@ isReading (no n) = false
 unfoldable pub wholeRefusal : List ℕ → ℕ
 wholeRefusal line = 15 when not (isReading (reading line))
 
--- "13 over 4,096 bytes without the newline; 14 more than 16 brackets open at some byte; 15 not a form": judged on the whole line before any key
+-- 13 for a line that is too long, 14 for too many open brackets, 15 for no form: judged on the whole line before any key
 unfoldable pub lineRefusal : List ℕ → ℕ
 lineRefusal line = 13 when ltb maxLine (length line) else 14 when tooDeep 0 line else wholeRefusal line
 

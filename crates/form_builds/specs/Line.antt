@@ -50,7 +50,7 @@ an-area-is-an-answer f e =
           sym (settled-ground set X Y i j) ∙ (ap (λ (l : List ℕ). groundOf l X Y) same ∙ settled-ground (formSet f) X Y i j);
     }
 
--- "what a line means": the form that it spells, and the answer of that form's build
+-- what a line means: the form that it spells, and the answer of that form's build
 pub record LineAnswer (line : List ℕ) : Type 0 where
   pub form : Form
   pub reads : Reads line form
