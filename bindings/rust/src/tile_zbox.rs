@@ -438,17 +438,12 @@ impl Iterator for TileZBoxIterator {
         let all: u64 = never_refused(value(|all| {
             ffi::nori_zbox_size_hint(zoom, minx, maxx, miny, maxy, self.given, all)
         }));
-        left(all - self.given)
+        let left = usize::try_from(all - self.given).ok();
+        (left.unwrap_or(usize::MAX), left)
     }
 }
 
 impl FusedIterator for TileZBoxIterator {}
-
-/// The hint of an iterator that has so many tiles left.
-fn left(tiles: u64) -> (usize, Option<usize>) {
-    let tiles = usize::try_from(tiles).ok();
-    (tiles.unwrap_or(usize::MAX), tiles)
-}
 
 impl IntoIterator for TileZBox {
     type Item = Tile;
@@ -565,55 +560,25 @@ impl TryFrom<Vec<TileZBox>> for TileZBoxes {
 }
 
 /// The tiles of several boxes: all of the first, then all of the second, and so on, each row by row.
+/// They are those of [`lent::boxes_next`], which looks for the box anew at each call.
 ///
 /// # Examples
 /// ```
-/// use noripliers::{TileZBox, TileZBoxes};
+/// use noripliers::{TileZBox, TileZBoxes, lent};
 ///
 /// let boxes = [TileZBox::new(2, 3, 4, 4, 3)?, TileZBox::new(0, 0, 0, 1, 1)?];
-/// let mut tiles = TileZBoxes::try_from(boxes.to_vec())?.into_iter();
-/// assert_eq!(tiles.next().map(|tile| tile.quadkey()), Some("210".to_string()));
-/// assert_eq!(tiles.size_hint(), (3, Some(3)));
-/// let rest: Vec<String> = tiles.map(|tile| tile.quadkey()).collect();
-/// assert_eq!(rest, ["211", "0", "2"]);
+/// let tiles = TileZBoxes::try_from(boxes.to_vec())?.into_iter();
+/// let keys: Vec<String> = tiles.map(|tile| tile.quadkey()).collect();
+/// assert_eq!(keys, ["210", "211", "0", "2"]);
+/// let third = lent::boxes_next(&[3, 2, 3, 4, 4, 1, 0, 0, 0, 1], 2)?;
+/// assert_eq!(third.0.map(|tile| tile.quadkey()), Some("0".to_string()));
 /// # Ok::<(), noripliers::Error>(())
 /// ```
-#[derive(Clone, Debug)]
-pub struct TileZBoxesIterator {
-    numbers: Vec<u32>,
-    given: u64,
-}
-
-impl From<TileZBoxes> for TileZBoxesIterator {
-    fn from(boxes: TileZBoxes) -> Self {
-        Self {
-            numbers: boxes.numbers(),
-            given: 0,
-        }
-    }
-}
-
-impl Iterator for TileZBoxesIterator {
-    type Item = Tile;
-
-    fn next(&mut self) -> Option<Tile> {
-        let (tile, given) = never_refused(lent::boxes_next(&self.numbers, self.given));
-        self.given = given;
-        tile
-    }
-
-    fn size_hint(&self) -> (usize, Option<usize>) {
-        left(never_refused(lent::boxes_length(&self.numbers)) - self.given)
-    }
-}
-
-impl FusedIterator for TileZBoxesIterator {}
-
 impl IntoIterator for TileZBoxes {
     type Item = Tile;
-    type IntoIter = TileZBoxesIterator;
+    type IntoIter = std::iter::Flatten<std::vec::IntoIter<TileZBox>>;
 
-    fn into_iter(self) -> TileZBoxesIterator {
-        TileZBoxesIterator::from(self)
+    fn into_iter(self) -> Self::IntoIter {
+        self.ranges.into_iter().flatten()
     }
 }
