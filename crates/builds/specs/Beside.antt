@@ -1,18 +1,18 @@
 -- What comes back of a build beside what the account keeps: call by call the same refusal, and the answer is the settled list of the set.
-use mathlib.Core.Path.{_≡_, refl, sym, ap, ap₂, _∙_}
+use mathlib.Core.Path.{_≡_, refl, sym, ap₂, _∙_}
 use mathlib.Core.Bool.{Bool, not, _&&_, _||_}
 use mathlib.Core.List.{List, [], _∷_, _++_, map}
-use Prim.Native.Nat.{ℕ, zero, suc, _-_}
-use lib.ListN.{length, drop, getD, replicate}
-use lib.Seq.{take-at}
+use Prim.Native.Nat.{ℕ, zero, suc}
+use lib.ListN.{length, getD}
 use Rattle.area.specs.Area.{groundOf, settledEntries, pairPlacesRefusal, unionEntries, commonEntries, differenceEntries}
 use Rattle.area.specs.Grounds.{settled-ground, settled-none, simplify-entries, settled-same}
 use Rattle.builds.specs.Account.{told, Kept, nothingKept, setAt, setFor, entriesFor, setOf, refusalOf, keep, keptNext, account}
 use Rattle.builds.specs.Build.{Operand, own, earlier, Operation, settling, union, commonPart, difference, Build}
 use Rattle.builds.specs.Build.{answerOf, nothingBack, handedIn, performed, comesBack, run}
+use Rattle.builds.specs.Gives.{Gives, listed-gives, lent-gives}
 use Rattle.builds.specs.InTurn.{inTurn}
 use Rattle.constants.specs.Limits.{maxZoom}
-use Rattle.errors.specs.Answer.{Lent, lent}
+use Rattle.errors.specs.Answer.{Lent}
 use Rattle.errors.specs.Laws.{else-zero}
 use Rattle.ground.specs.Ground.{Same}
 use Rattle.tile_list.specs.Laws.{accepted-entries}
@@ -55,19 +55,14 @@ module _ (rs : List (Lent ℕ)) (ks : List Kept) (b : Beside rs ks) where
   same-set (own list) X Y p q = refl
   same-set (earlier i) X Y p q = settled-ground (setAt ks i) X Y p q
 
--- an answer in lent memory, accepted and refused, beside what is kept
+-- what a call gives, accepted and refused, beside what is kept
+agree-given : (r : Lent ℕ) (n : ℕ) (items : List ℕ) (G : ℕ → ℕ → Bool) → Gives r n items → (n ≡ 0 → items ≡ settledEntries G) → Agree r (keep n G)
+agree-given r zero items G g e = record { refusal = g .number; answer = g .front ∙ e refl; count = g .count }
+agree-given r (suc n) items G g e = record { refusal = g .number; answer = g .front ∙ sym settled-none; count = g .count }
+
 agree-listed : (n : ℕ) (list items memory : List ℕ) (G : ℕ → ℕ → Bool) → (n ≡ 0 → items ≡ settledEntries G)
     → Agree (listAnswer n 0 (length items) list items memory) (keep n G)
-agree-listed zero list items memory G e =
-    let t = take-at items (replicate (length list - length items) 0 ++ drop (length list) memory) (length items) refl in
-    record { refusal = refl; answer = t ∙ e refl; count = ap length (sym t) }
-agree-listed (suc n) list items memory G e = record { refusal = refl; answer = sym settled-none; count = refl }
-
-agree-lent : (n : ℕ) (items memory : List ℕ) (G : ℕ → ℕ → Bool) → items ≡ settledEntries G → Agree (lent n items memory) (keep n G)
-agree-lent zero items memory G e =
-    let t = take-at items (drop (length items) memory) (length items) refl in
-    record { refusal = refl; answer = t ∙ e; count = ap length (sym t) }
-agree-lent (suc n) items memory G e = record { refusal = refl; answer = sym settled-none; count = refl }
+agree-listed n list items memory G e = agree-given _ n items G (listed-gives n list items memory) e
 
 -- one call more
 module _ (rs : List (Lent ℕ)) (ks : List Kept) (b : Beside rs ks) where
@@ -99,7 +94,8 @@ module _ (rs : List (Lent ℕ)) (ks : List Kept) (b : Beside rs ks) where
       (λ X Y i j. ap₂ _&&_ (same-set rs ks b p X Y i j) (same-set rs ks b q X Y i j))))
   agree (difference p q) memory =
       rw (same-entries rs ks b p, same-entries rs ks b q, left)
-      (agree-lent (refused (difference p q) memory) (settledEntries (setOf set (difference p q))) memory (setOf set (difference p q)) refl)
+      (agree-given _ (refused (difference p q) memory) (settledEntries (setOf set (difference p q))) (setOf set (difference p q))
+      (lent-gives (refused (difference p q) memory) (settledEntries (setOf set (difference p q))) memory) (λ e. refl))
     where
       left : differenceEntries (list p) (list q) ≡ settledEntries (setOf set (difference p q))
       left =

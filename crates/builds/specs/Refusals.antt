@@ -5,7 +5,7 @@ use mathlib.Core.Path.{_≡_, refl, sym, ap, _∙_, subst}
 use mathlib.Core.Logic.{_↔_, _⊎_, inl, inr, ⊎-elim}
 use mathlib.Core.Bool.{Bool, true, false, not, _&&_, _||_, true≢false, or-true}
 use mathlib.Core.List.{List, [], _∷_, _++_, List·Memᴰ, List·Memᴰ·head, List·Memᴰ·tail}
-use Prim.Native.Nat.{ℕ, zero, suc, _+_, _<_}
+use Prim.Native.Nat.{ℕ, _+_, _<_}
 use native.Mathlib.Omega.{arith}
 use borrow.Author.Tests.{eq-eqb, eqb-true, ltb-true, lt-ltb}
 use lib.Dec.{ltb}
@@ -17,8 +17,9 @@ use Rattle.area.specs.Settled.{settled-test}
 use Rattle.bits.specs.Tests.{and-parts, not-true, not-false, allOf, all-in}
 use Rattle.builds.specs.Account.{setOf, placesFor, refusalOf}
 use Rattle.builds.specs.Build.{Operand, Operation, settling, union, commonPart, difference, performed}
+use Rattle.builds.specs.Gives.{listed-gives, lent-gives}
 use Rattle.constants.specs.Limits.{maxZoom, maxEntries}
-use Rattle.errors.specs.Answer.{_when_, _else_, lent, short}
+use Rattle.errors.specs.Answer.{_when_, _else_, short}
 use Rattle.errors.specs.Laws.{else-none}
 use Rattle.ground.specs.Ground.{Same, Settled}
 use Rattle.ground.specs.Theorems.{settled-list-settled}
@@ -27,7 +28,7 @@ use Rattle.settled.specs.Settled.{isSettled}
 use Rattle.tile.specs.OnMap.{OnMap}
 use Rattle.tile.specs.declared.Tile.{Tile}
 use Rattle.tile_list.specs.Laws.{valid-tile, map-tile}
-use Rattle.tile_list.specs.List.{listed, entriesInOrder, listRefusal, placesRefusal, listAnswer}
+use Rattle.tile_list.specs.List.{listed, entriesInOrder, listRefusal, placesRefusal}
 use Rattle.tile_set.specs.Holds.{Valid}
 use Rattle.tile_set.specs.Merged.{or-cases, is-false}
 use Rattle.tile_set.specs.Set.{simplified}
@@ -253,32 +254,24 @@ a-call-is-refused set entries (commonPart a b) places = pair-then (entries a) (e
 a-call-is-refused set entries (difference a b) places = pair-then (entries a) (entries b) _ (fewer-than-left set entries a b places)
 
 -- what comes back of a call, by the promises, is refused so too: an operand's set is then the ground of its list
-listed-number : (n : ℕ) (list items memory : List ℕ) → listAnswer n 0 (length items) list items memory .number ≡ n
-listed-number zero list items memory = refl
-listed-number (suc n) list items memory = refl
-
-lent-number : (n : ℕ) (items memory : List ℕ) → lent n items memory .number ≡ n
-lent-number zero items memory = refl
-lent-number (suc n) items memory = refl
-
 performed-number : (entries : Operand → List ℕ) (asked : Operation) (memory : List ℕ)
     → performed entries asked memory .number
     ≡ refusalOf (λ a. groundOf (entries a)) entries (record { asked = asked; places = length memory })
 unfolding placesRefusal pairPlacesRefusal
 performed-number entries (settling a) memory =
     let items = entriesInOrder (simplified maxZoom 0 (listed (entries a))) in
-    listed-number (placesRefusal (entries a) memory) (entries a) items memory
+    listed-gives (placesRefusal (entries a) memory) (entries a) items memory .number
 performed-number entries (union a b) memory =
     let l = entries a in
     let r = entries b in
-    listed-number (pairPlacesRefusal l r memory) (l ++ r) (unionEntries l r) memory
+    listed-gives (pairPlacesRefusal l r memory) (l ++ r) (unionEntries l r) memory .number
 performed-number entries (commonPart a b) memory =
     let l = entries a in
     let r = entries b in
-    listed-number (pairPlacesRefusal l r memory) (l ++ r) (commonEntries l r) memory
+    listed-gives (pairPlacesRefusal l r memory) (l ++ r) (commonEntries l r) memory .number
 performed-number entries (difference a b) memory =
     let items = differenceEntries (entries a) (entries b) in
-    lent-number (pairRefusal (entries a) (entries b) else short items memory) items memory
+    lent-gives (pairRefusal (entries a) (entries b) else short items memory) items memory .number
 
 pub what-comes-back-is-refused : (entries : Operand → List ℕ) (asked : Operation) (memory : List ℕ)
     → Refuses (λ a. groundOf (entries a)) entries asked (length memory) (performed entries asked memory .number)

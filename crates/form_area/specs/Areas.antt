@@ -9,6 +9,7 @@ use lib.ListN.{length, take, drop, getD, length-drop, length-append, length-map,
 use lib.Seq.{take-at, drop-at, drop-drop}
 use borrow.Author.Tests.{lt-ltb, le-ltb, eq-eqb}
 use Rattle.bits.specs.Tests.{allOf}
+use Rattle.builds.specs.Gives.{simplify-gives}
 use Rattle.constants.specs.Limits.{maxEntries, formPlaces}
 use Rattle.errors.specs.Answer.{Answer, answer, numberOf, _else_}
 use Rattle.errors.specs.Cases.{left}
@@ -24,7 +25,7 @@ use Rattle.form.specs.Once.{one-form}
 use Rattle.form.specs.declared.End.the-variants.{At, Nowhere}
 use Rattle.form.specs.declared.Verb.{Verb}
 use Rattle.form_area.specs.Area.{isDash, keyOfRun, keysRefusal, keyEntry, runEntries, places, operated, given, formArea}
-use Rattle.form_area.specs.Calls.{valued, simplify-gives, simplify-alike, call-valued, operated-gives, operated-alike}
+use Rattle.form_area.specs.Calls.{valued, simplify-alike, call-valued, operated-gives, operated-alike}
 use Rattle.ids.specs.Entry.{isEntry, entry-accepted, entry-tile-again}
 use Rattle.merge.specs.Merge.{simplifyOf}
 use Rattle.quadkey.specs.Key.{keyRefusal}
@@ -77,7 +78,7 @@ module _ (runs : List (List ℕ)) where
     pub settled-area : (r : Count) (exit memory : List ℕ) → left r exit ≡ simplifyOf (runEntries runs) 0 memory → length memory ≡ formPlaces
         → valued r exit ≡ formArea (tiles runs)
     settled-area r exit memory e h =
-        call-valued r exit _ e _ _ (simplify-gives (runEntries runs) memory)
+        call-valued r exit _ e _ _ (simplify-gives 0 (runEntries runs) memory)
         ∙ (simplify-alike (runEntries runs) memory places (h ∙ sym (length-replicate {A = ℕ} formPlaces 0)) ∙ sym tiles-area)
 
     pub many-keys-area : (exit : List ℕ) → formPlaces < length runs → length runs ≤ maxEntries → valued (count.Refused Memory) exit ≡ formArea (tiles runs)
@@ -86,7 +87,7 @@ module _ (runs : List (List ℕ)) where
         let l = length-map runs (λ (r : List ℕ). keyEntry (keyOfRun r)) in
         let m = length-replicate {A = ℕ} formPlaces 0 in
         let e = too-many (runEntries runs) places (runs-are-entries runs fine) (omega (arith, l, k)) (omega (arith, l, m, h)) in
-        let n : 12 ≡ keysRefusal runs else simplifyOf (runEntries runs) 0 places .number = rw fine (sym (simplify-gives (runEntries runs) places .number ∙ e)) in
+        let n : 12 ≡ keysRefusal runs else simplifyOf (runEntries runs) 0 places .number = rw fine (sym (simplify-gives 0 (runEntries runs) places .number ∙ e)) in
         refused-given Memory exit _ _ n
 
 -- the operands, the left one before the right one

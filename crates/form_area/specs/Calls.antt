@@ -1,20 +1,19 @@
 -- What a call on lists answers does not lean on what the lent memory held before, only on its length.
 use mathlib.Core.Path.{_≡_, refl, sym, ap, ap₂, _∙_, subst}
 use mathlib.Core.List.{List, [], _++_}
-use Prim.Native.Nat.{ℕ, zero, suc, _-_, _≤_}
-use native.Mathlib.Omega.{arith}
-use lib.ListN.{length, take, drop, replicate, length-append}
-use lib.Seq.{take-at}
+use Prim.Native.Nat.{ℕ, zero, suc, _≤_}
+use lib.ListN.{length, take}
 use Rattle.area.specs.Area.{pairRefusal, pairPlacesRefusal, unionEntries, commonEntries, differenceEntries}
 use Rattle.builds.specs.Build.{answerOf}
-use Rattle.errors.specs.Answer.{Answer, answer, Lent, lent, short, _else_}
+use Rattle.builds.specs.Gives.{Gives, listed-gives, lent-gives, simplify-gives}
+use Rattle.errors.specs.Answer.{Answer, answer, Lent, short, _else_}
 use Rattle.errors.specs.Cases.{countCase, left}
 use Rattle.errors.specs.declared.Count.{Count}
 use Rattle.form.specs.declared.Verb.{Verb}
 use Rattle.form.specs.declared.Verb.the-variants.{Plus, Both, Minus}
 use Rattle.form_area.specs.Area.{operated, given}
 use Rattle.merge.specs.Merge.{simplifyOf}
-use Rattle.tile_list.specs.List.{listed, entriesInOrder, placesRefusal, listAnswer}
+use Rattle.tile_list.specs.List.{listed, entriesInOrder, placesRefusal}
 use Rattle.tile_set.specs.Set.{simplified}
 use Rattle.constants.specs.Limits.{maxZoom}
 
@@ -25,40 +24,10 @@ valued r memory = record { number = countCase r .number; value = take (countCase
 abbrev pub Within : Count → List ℕ → Type 0
 Within r memory = countCase r .value ≤ length memory
 
--- a call's answer: the refusal, or the entries, all of which stand in the memory
-pub record Gives (r : Lent ℕ) (n : ℕ) (items : List ℕ) : Type 0 where
-  pub number : r .number ≡ n
-  pub front : answerOf r ≡ answer n [] items .value
-  pub within : r .value ≤ length (r .memory)
-
-pub listed-gives : (n : ℕ) (list items memory : List ℕ) → Gives (listAnswer n 0 (length items) list items memory) n items
-listed-gives zero list items memory = record {
-  number = refl;
-  front = take-at items (replicate (length list - length items) 0 ++ drop (length list) memory) (length items) refl;
-  within = omega (arith, length-append items (replicate (length list - length items) 0 ++ drop (length list) memory));
-}
-listed-gives (suc n) list items memory = record { number = refl; front = refl; within = omega arith }
-
-pub lent-gives : (n : ℕ) (items memory : List ℕ) → Gives (lent n items memory) n items
-lent-gives zero items memory = record {
-  number = refl;
-  front = take-at items (drop (length items) memory) (length items) refl;
-  within = omega (arith, length-append items (drop (length items) memory));
-}
-lent-gives (suc n) items memory = record { number = refl; front = refl; within = omega arith }
-
 -- two calls that give the same, after the same refusals before them
 same-given : (refusal : ℕ) (r s : Lent ℕ) (n : ℕ) (items : List ℕ) → Gives r n items → Gives s n items → given refusal r ≡ given refusal s
 same-given refusal r s n items a b =
     ap₂ (λ (k : ℕ) (l : List ℕ). answer (refusal else k) [] l) (a .number ∙ sym (b .number)) (a .front ∙ sym (b .front))
-
--- an accepted call gives the entries
-pub accepted-items : (r : Lent ℕ) (n : ℕ) (items : List ℕ) → Gives r n items → r .number ≡ 0 → answerOf r ≡ items
-accepted-items r n items a e = a .front ∙ go n (sym (a .number) ∙ e)
-  where
-    go : (n : ℕ) → n ≡ 0 → answer n [] items .value ≡ items
-    go zero e = refl
-    go (suc n) e = absurd (omega (arith, e))
 
 pub given-items : (r : Lent ℕ) (n : ℕ) (items : List ℕ) → Gives r n items → given 0 r ≡ answer n [] items
 given-items r n items a = ap₂ (λ (k : ℕ) (l : List ℕ). answer k [] l) (a .number) (a .front) ∙ twice n items
@@ -81,11 +50,7 @@ module _ (r : Count) (exit : List ℕ) (c : Lent ℕ) (e : left r exit ≡ c) (n
       parts zero items = refl
       parts (suc n) items = refl
 
--- the refusals and the entries of each call
-module _ (list memory : List ℕ) where
-  pub simplify-gives : Gives (simplifyOf list 0 memory) (placesRefusal list memory) (entriesInOrder (simplified maxZoom 0 (listed list)))
-  simplify-gives = listed-gives (placesRefusal list memory) list _ memory
-
+-- the refusals and the entries of each operation
 abbrev pub operatedRefusal : Verb → List ℕ → List ℕ → List ℕ → ℕ
 operatedRefusal Plus a b memory = pairPlacesRefusal a b memory
 operatedRefusal Both a b memory = pairPlacesRefusal a b memory
@@ -107,7 +72,7 @@ unfolding placesRefusal
 simplify-alike list m k e =
     let f : placesRefusal list m ≡ placesRefusal list k = rw e in
     same-given 0 (simplifyOf list 0 m) (simplifyOf list 0 k) (placesRefusal list k) _
-    (subst (λ (n : ℕ). Gives (simplifyOf list 0 m) n (entriesInOrder (simplified maxZoom 0 (listed list)))) f (simplify-gives list m)) (simplify-gives list k)
+    (subst (λ (n : ℕ). Gives (simplifyOf list 0 m) n (entriesInOrder (simplified maxZoom 0 (listed list)))) f (simplify-gives 0 list m)) (simplify-gives 0 list k)
 
 refused-alike : (verb : Verb) (a b m k : List ℕ) → length m ≡ length k → operatedRefusal verb a b m ≡ operatedRefusal verb a b k
 unfolding pairPlacesRefusal

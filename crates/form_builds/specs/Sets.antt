@@ -6,13 +6,14 @@ use mathlib.Core.List.{List}
 use Prim.Native.Nat.{ℕ}
 use Rattle.area.specs.Area.{groundOf, settledEntries}
 use Rattle.area.specs.Grounds.{settled-ground, settled-same, simplify-entries}
+use Rattle.builds.specs.Gives.{simplify-gives, accepted-items}
 use Rattle.errors.specs.Answer.{_else_}
 use Rattle.errors.specs.Laws.{else-zero}
 use Rattle.form.specs.Form.{Form, tiles, pair}
 use Rattle.form.specs.declared.Verb.{Verb}
 use Rattle.form.specs.declared.Verb.the-variants.{Plus, Both, Minus}
 use Rattle.form_area.specs.Area.{keysRefusal, runEntries, places, operated, formArea}
-use Rattle.form_area.specs.Calls.{operatedEntries, accepted-items, simplify-gives, operated-gives}
+use Rattle.form_area.specs.Calls.{operatedEntries, operated-gives}
 use Rattle.form_builds.specs.Run.{given-zero}
 use Rattle.merge.specs.Merge.{simplifyOf}
 use Rattle.tile_list.specs.Laws.{accepted-entries}
@@ -47,9 +48,9 @@ area-of-set (tiles runs) e =
     let list = runEntries runs in
     let r = simplifyOf list 0 places in
     let z = given-zero (keysRefusal runs) r e in
-    let n = simplify-gives list places .number in
+    let n = simplify-gives 0 list places .number in
     let fine = accepted-entries list (placed list places (sym n ∙ z .1)) in
-    z .2 ∙ (accepted-items r _ _ (simplify-gives list places) (z .1) ∙ simplify-entries list fine)
+    z .2 ∙ (accepted-items r _ _ (simplify-gives 0 list places) (z .1) ∙ simplify-entries list fine)
 area-of-set (pair verb f g) e =
     let r = operated verb (formArea f .value) (formArea g .value) places in
     let z = given-zero (formArea f .number else formArea g .number) r e in

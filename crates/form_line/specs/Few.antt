@@ -14,6 +14,7 @@ use Rattle.area.specs.Grounds.{simplify-entries, listed-covers}
 use Rattle.area.specs.Pairs.{union-covers, common-covers, Shared, of-first, of-second, shared-when}
 use Rattle.area.specs.Settled.{settled-entries-settled}
 use Rattle.bits.specs.Tests.{allOf, into-map}
+use Rattle.builds.specs.Gives.{Gives, simplify-gives}
 use Rattle.constants.specs.Limits.{maxZoom, maxLine, formPlaces}
 use Rattle.errors.specs.Answer.{answer, Lent, short, _when_, _else_}
 use Rattle.errors.specs.Laws.{else-zero}
@@ -22,7 +23,7 @@ use Rattle.form.specs.Reading.{reading}
 use Rattle.form.specs.declared.Verb.{Verb}
 use Rattle.form.specs.declared.Verb.the-variants.{Plus, Both, Minus}
 use Rattle.form_area.specs.Area.{formArea, given, keysRefusal, operated, places, readArea, lineArea, runEntries}
-use Rattle.form_area.specs.Calls.{Gives, simplify-gives, operated-gives}
+use Rattle.form_area.specs.Calls.{operated-gives}
 use Rattle.ground.specs.Cells.{first-cell, cell-on-map, full-cells}
 use Rattle.ground.specs.Ground.{largest, settledList}
 use Rattle.ground.specs.Largest.{Full, largest-when, parent-full, Cover, fills}
@@ -152,7 +153,7 @@ pub form-fits : (f : Form) → Fits (formArea f .value)
 unfolding formArea
 form-fits (tiles runs) =
     given-fits (keysRefusal runs) _ _ _
-    (simplify-gives (runEntries runs) places)
+    (simplify-gives 0 (runEntries runs) places)
     (keys-fit (runEntries runs))
 form-fits (pair verb f g) = operated-fits (formArea f .value) (formArea g .value) (form-fits f) (form-fits g) (formArea f .number else formArea g .number) verb
 

@@ -9,6 +9,7 @@ use lib.ListN.{length}
 use Rattle.area.specs.Area.{pairRefusal, pairPlacesRefusal, unionEntries, commonEntries, differenceEntries}
 use Rattle.bits.specs.Tests.{allOf}
 use Rattle.builds.specs.Build.{answerOf}
+use Rattle.builds.specs.Gives.{Gives, simplify-gives}
 use Rattle.constants.specs.Limits.{maxZoom, maxEntries, maxLine, formPlaces}
 use Rattle.errors.specs.Answer.{answer, Lent, short, _when_, _else_}
 use Rattle.form.specs.Form.{Form, tiles, pair, Reads, tooDeep}
@@ -16,7 +17,7 @@ use Rattle.form.specs.Reading.{reading}
 use Rattle.form.specs.declared.Verb.{Verb}
 use Rattle.form.specs.declared.Verb.the-variants.{Plus, Both, Minus}
 use Rattle.form_area.specs.Area.{keyOfRun, keysRefusal, runEntries, places, operated, given, formArea, readArea, lineArea}
-use Rattle.form_area.specs.Calls.{Gives, simplify-gives, operated-gives}
+use Rattle.form_area.specs.Calls.{operated-gives}
 use Rattle.form_line.specs.Decimal.{decimal-short}
 use Rattle.form_line.specs.Few.{Fits, line-fits}
 use Rattle.form_line.specs.Line.{answerText, printed}
@@ -97,7 +98,7 @@ unfolding formArea
 form-number (tiles runs) =
     let list = runEntries runs in
     given-number (keysRefusal runs) (placesRefusal list places) _ (entriesInOrder (simplified maxZoom 0 (listed list)))
-    (simplify-gives list places) (keys-number runs) (places-number list)
+    (simplify-gives 0 list places) (keys-number runs) (places-number list)
 form-number (pair verb f g) =
     operated-number (formArea f .number else formArea g .number) (else-number (formArea f .number) (formArea g .number) (form-number f) (form-number g))
     verb (formArea f .value) (formArea g .value)

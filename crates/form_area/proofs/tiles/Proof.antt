@@ -5,11 +5,12 @@ use Prim.Native.Nat.{ℕ, _≤_}
 use native.Mathlib.Omega.{arith}
 use lib.ListN.{length, take, length-replicate}
 use lib.Seq.{length-take-le}
+use Rattle.builds.specs.Gives.{simplify-gives}
 use Rattle.constants.specs.Limits.{formPlaces, lines-in-entries}
 use Rattle.errors.specs.declared.Count.{Count}
 use Rattle.errors.specs.declared.Count.the-variants as count
 use Rattle.form_area.specs.Areas.{bad-key-area, settled-area, many-keys-area, keys-fit}
-use Rattle.form_area.specs.Calls.{call-within, simplify-gives}
+use Rattle.form_area.specs.Calls.{call-within}
 use Rattle.form_area.specs.Promised.{AllEntered}
 use Rattle.merge.specs.Merge.{simplifyOf}
 use borrow.Author.Needs.{needs}
@@ -64,7 +65,7 @@ returns-2 c =
     let entries = c .before .before .before .before .before .before .before .before .before .before .enter .last .1 .0 in
     let n = c .before .before .before .before .before .before .before .n .given .0 .0 in
     record {
-      within = call-within (s .result) (s .last .1 .1 .0) _ (s .ensures) _ _ (simplify-gives (take n entries) (a .args .list .now));
+      within = call-within (s .result) (s .last .1 .1 .0) _ (s .ensures) _ _ (simplify-gives 0 (take n entries) (a .args .list .now));
       area = λ runs k.
           let e = counted (c .before .before .before .before .before .before .before) runs k in
           settled-area runs (e .0) (s .result) (s .last .1 .1 .0) (a .args .list .now)
