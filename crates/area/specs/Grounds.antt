@@ -1,14 +1,16 @@
 -- Lists of entries and their ground: what the settled list of a ground names, and which sets of tiles are its tiles.
 use mathlib.Core.Path.{_≡_, refl, sym, ap, _∙_}
-use mathlib.Core.Bool.{Bool, true, false, true≢false}
+use mathlib.Core.Bool.{Bool, true, false}
 use mathlib.Core.List.{List, [], _∷_, map, List·Memᴰ, List·Memᴰ·head, List·Memᴰ·tail, List·Memᴰ·not-nil, Memᴰ·cast}
 use Prim.Native.Nat.{ℕ, _^_, _<_}
+use native.Mathlib.Omega.{arith}
 use Rattle.bits.specs.Tests.{allOf, in-map, into-map}
 use Rattle.constants.specs.Limits.{maxZoom}
 use Rattle.area.specs.Area.{tilesOf, groundOf, settledEntries}
 use Rattle.ground.specs.Cells.{ground-in, ground-of}
-use Rattle.ground.specs.Ground.{ground, Same, Settled, largest, settledList}
-use Rattle.ground.specs.Largest.{Full, Cover, parents-not-full, is-largest, largest-is}
+use Rattle.ground.specs.Floor.{largest-list-from, simplified-list-from}
+use Rattle.ground.specs.Ground.{ground, Same, Settled, settledList}
+use Rattle.ground.specs.Largest.{Full, Cover}
 use Rattle.ground.specs.Theorems.{settled-list-settled, settled-list-ground, one-settled-list, settled-list-same}
 use Rattle.ids.specs.Entry.{entryTile, entriesOf, isEntry, entry-again, entry-tile-again}
 use Rattle.tile.specs.OnMap.{tileAt}
@@ -16,20 +18,17 @@ use Rattle.tile.specs.declared.Tile.{Tile}
 use Rattle.tile_list.specs.Laws.{named-by, names, listed-within, map-tile}
 use Rattle.tile_list.specs.List.{listed, entriesInOrder}
 use Rattle.tile_set.specs.Holds.{Holds, Valid}
-use Rattle.tile_set.specs.InOrder.{in-order-same}
-use Rattle.tile_set.specs.Merged.{Within, is-false, bool-ext}
-use Rattle.tile_set.specs.Set.{parentTile, child, whole, simplified}
-use Rattle.tile_set.specs.Simplified.{simplified-within}
-use Rattle.tile_set.specs.Theorems.{simplify-keeps-ground, settled-at-0}
+use Rattle.tile_set.specs.Merged.{is-false}
+use Rattle.tile_set.specs.Set.{parentTile, simplified}
 
 -- the tiles of entries that were made of tiles of the map are those tiles
-again : (ts : List Tile) → ((t : Tile) → List·Memᴰ t ts → Valid maxZoom t) → tilesOf (entriesOf ts) ≡ ts
-again [] v = refl
-again (t ∷ ts) v =
-    rw (entry-tile-again (t .x) (t .y) (t .z) (map-tile t (v t (List·Memᴰ·head refl))), again ts (λ u m. v u (List·Memᴰ·tail m)))
+pub tiles-again : (ts : List Tile) → ((t : Tile) → List·Memᴰ t ts → Valid maxZoom t) → tilesOf (entriesOf ts) ≡ ts
+tiles-again [] v = refl
+tiles-again (t ∷ ts) v =
+    rw (entry-tile-again (t .x) (t .y) (t .z) (map-tile t (v t (List·Memᴰ·head refl))), tiles-again ts (λ u m. v u (List·Memᴰ·tail m)))
 
 pub settled-tiles : (G : ℕ → ℕ → Bool) → tilesOf (settledEntries G) ≡ settledList maxZoom G
-settled-tiles G = again (settledList maxZoom G) (settled-list-settled maxZoom G .of-map)
+settled-tiles G = tiles-again (settledList maxZoom G) (settled-list-settled maxZoom G .of-map)
 
 pub settled-ground : (G : ℕ → ℕ → Bool) → Same maxZoom (groundOf (settledEntries G)) G
 settled-ground G X Y a b = ap (λ (l : List Tile). ground maxZoom l X Y) (settled-tiles G) ∙ settled-list-ground maxZoom G X Y a b
@@ -73,31 +72,12 @@ listed-covers list e = record { of-map = listed-within list e; covers = covers; 
 -- a set of tiles that covers G, no parent of which is full, is G's settled list
 pub largest-entries : (G : ℕ → ℕ → Bool) (S : Tile → Bool) (C : Cover maxZoom G (λ t. S t ≡ true))
     → ((t : Tile) → S t ≡ true → 0 < t .z → Full maxZoom G (parentTile t) → ⊥) → entriesInOrder S ≡ settledEntries G
-unfolding settledList
-largest-entries G S C tops =
-    ap entriesOf (in-order-same maxZoom S (largest maxZoom G) (λ t v. bool-ext (S t) (largest maxZoom G t) (is-largest C tops t) (largest-is C tops t v)))
+largest-entries G S C tops = ap entriesOf (largest-list-from 0 maxZoom S C (λ t e. omega arith) tops)
 
 -- `simplify` at m = 0 gives the settled list of what the set covers
 pub simplified-entries : (G : ℕ → ℕ → Bool) (S : Tile → Bool) → Cover maxZoom G (λ t. S t ≡ true)
     → entriesInOrder (simplified maxZoom 0 S) ≡ settledEntries G
-simplified-entries G S C = largest-entries G (simplified maxZoom 0 S) R tops
-  where
-    w : Within maxZoom S
-    w = C .of-map
-
-    R : Cover maxZoom G (λ t. simplified maxZoom 0 S t ≡ true)
-    R = record {
-      of-map = simplified-within 0 S w;
-      covers = λ X Y a b g. simplify-keeps-ground 0 S w X Y .0 (C .covers X Y a b g);
-      covered = λ X Y t e h. let s = simplify-keeps-ground 0 S w X Y .1 (t, e, h) in C .covered X Y (s .0) (s .1) (s .2);
-    }
-
-    tops : (t : Tile) → simplified maxZoom 0 S t ≡ true → 0 < t .z → Full maxZoom G (parentTile t) → ⊥
-    tops = parents-not-full R (settled-at-0 S w .0) none
-      where
-        none : (p : Tile) → simplified maxZoom 0 S (child p 0 0) ≡ true → simplified maxZoom 0 S (child p 0 1) ≡ true
-            → simplified maxZoom 0 S (child p 1 0) ≡ true → simplified maxZoom 0 S (child p 1 1) ≡ true → ⊥
-        none p a b c d = let k : whole (simplified maxZoom 0 S) p ≡ true = rw (a, b, c, d) in true≢false (sym k ∙ settled-at-0 S w .1 p)
+simplified-entries G S C = ap entriesOf (simplified-list-from 0 maxZoom S C (λ t e. omega arith))
 
 -- what a call of `simplify` gives a list that is not refused
 pub simplify-entries : (list : List ℕ) → allOf isEntry list ≡ true → entriesInOrder (simplified maxZoom 0 (listed list)) ≡ settledEntries (groundOf list)

@@ -74,7 +74,7 @@ module _ (list : List ℕ) (e : isSettled list ≡ true) where
 
   -- no parent of a tile of the list lies whole in its ground
   pub settled-tops : allOf isEntry list ≡ true → (t : Tile) → listed list t ≡ true → 0 < t .z → Full maxZoom (groundOf list) (parentTile t) → ⊥
-  settled-tops f = parents-not-full (listed-covers list f) settled-apart settled-no-four
+  settled-tops f = parents-not-full (listed-covers list f) 0 settled-apart (λ p l. settled-no-four p)
 
 -- "Settled means: strictly in order, no tile beside its own ancestor, no four siblings together"
 pub settled-test : (list : List ℕ) → (allOf isEntry list && isSettled list ≡ true) ↔ Settled maxZoom (tilesOf list)

@@ -3,8 +3,7 @@ use mathlib.Core.Path.{_≡_, refl, sym}
 use mathlib.Core.Bool.{Bool, true, false, not, _&&_}
 use mathlib.Core.Logic.{_⊎_, inl, inr}
 use mathlib.Core.List.{List, [], _++_, map-append, List·Memᴰ, Memᴰ·append-left, Memᴰ·append-right, Memᴰ·cast}
-use Prim.Native.Nat.{ℕ, zero, suc, _+_, _≤_, _<_}
-use native.Mathlib.Decide.{decLe, decLt}
+use Prim.Native.Nat.{ℕ, zero, suc, _+_, _≤_}
 use native.Mathlib.Omega.{arith}
 use lib.Dec.{ltb}
 use lib.ListN.{length, length-append, length-map, length-replicate}
@@ -24,51 +23,15 @@ use Rattle.form.specs.declared.Verb.{Verb}
 use Rattle.form.specs.declared.Verb.the-variants.{Plus, Both, Minus}
 use Rattle.form_area.specs.Area.{formArea, given, keysRefusal, operated, places, readArea, lineArea, runEntries}
 use Rattle.form_area.specs.Calls.{operated-gives}
-use Rattle.ground.specs.Cells.{first-cell, cell-on-map, full-cells}
-use Rattle.ground.specs.Ground.{largest, settledList}
-use Rattle.ground.specs.Largest.{Full, largest-when, parent-full, Cover, fills}
-use Rattle.ground.specs.Members.{ordered-once, no-longer}
-use Rattle.ground.specs.Theorems.{settled-list-settled}
+use Rattle.ground.specs.Floor.{settled-list-least-from}
+use Rattle.ground.specs.Ground.{settledList}
+use Rattle.ground.specs.Largest.{Cover}
 use Rattle.ids.specs.Entry.{entryOf, entryTile, entryRefusal, isEntry}
-use Rattle.tile.specs.OnMap.{tileAt}
 use Rattle.tile.specs.declared.Tile.{Tile}
 use Rattle.tile_list.specs.Laws.{accepted-entries, named-by}
 use Rattle.tile_list.specs.List.{listed, listRefusal, placesRefusal, entriesInOrder}
-use Rattle.tile_set.specs.Holds.{Holds, holds-both, Valid}
-use Rattle.tile_set.specs.InOrder.{in-order-of}
 use Rattle.tile_set.specs.Merged.{or-cases}
-use Rattle.tile_set.specs.Set.{parentTile, simplified}
-
--- no more tiles in the settled list of a set than in a list that holds all tiles of a cover of it
-module _ {D : ℕ} {G : ℕ → ℕ → Bool} {P : Tile → Type 0} (C : Cover D G P) (l : List Tile) (all : (t : Tile) → P t → List·Memᴰ t l) where
-  settled-of : {p : Tile} → List·Memᴰ p (settledList D G) → Valid D p × (largest D G p ≡ true)
-  unfolding settledList
-  settled-of m = in-order-of D (largest D G) m
-
-  -- a tile of the cover that shares a cell with one of the settled list lies in it
-  partner : (p : Tile) → List·Memᴰ p (settledList D G) → (t : Tile) × List·Memᴰ t l × Holds p t
-  partner p m =
-      let v = settled-of m .0 in
-      let k = largest-when D G p (v .zoom) (settled-of m .1) in
-      let c = first-cell p (v .zoom) in
-      let b = cell-on-map v c in
-      let r = C .covers _ _ (b .0) (b .1) (full-cells D G p (k .0) c) in
-      (r .0, all (r .0) (r .1), below v k c (r .0) (r .1) (r .2) (decLt (r .0 .z) (p .z)))
-    where
-      below : {X Y : ℕ} → Valid D p → Full D G p × (0 < p .z → Full D G (parentTile p) → ⊥) → Holds p (tileAt X Y D) → (r : Tile) → P r → Holds r (tileAt X Y D)
-          → Dec (r .z < p .z) → Holds p r
-      below v k c r q h (yes a) = absurd (k .1 (omega arith) (parent-full D G r p (holds-both h c (omega arith)) a (v .zoom) (fills C r q)))
-      below v k c r q h (no a) = holds-both c h (omega arith)
-
-  one : (p q t : Tile) → List·Memᴰ p (settledList D G) → List·Memᴰ q (settledList D G) → Holds p t → Holds q t → p ≡ q
-  one p q t m n h k = pick (decLe (p .z) (q .z))
-    where
-      pick : Dec (p .z ≤ q .z) → p ≡ q
-      pick (yes i) = settled-list-settled D G .apart p q m n (holds-both h k i)
-      pick (no i) = sym (settled-list-settled D G .apart q p n m (holds-both k h (omega arith)))
-
-  pub settled-no-longer : length (settledList D G) ≤ length l
-  settled-no-longer = no-longer Holds (settledList D G) l (ordered-once _ (settled-list-settled D G .in-order)) partner one
+use Rattle.tile_set.specs.Set.{simplified}
 
 abbrev pub IsEntry : ℕ → Type 0
 IsEntry n = entryRefusal n ≡ 0
@@ -89,7 +52,7 @@ settled-fits G h = record { entries = settled-entries-settled G .0; few = h }
 covered-fits : {G : ℕ → ℕ → Bool} {P : Tile → Type 0} → Cover maxZoom G P → (list : List ℕ) → ((t : Tile) → P t → List·Memᴰ t (tilesOf list))
     → length list ≤ formPlaces → Fits (settledEntries G)
 covered-fits {G} C list all h =
-    settled-fits G (omega (arith, length-map (settledList maxZoom G) (λ (t : Tile). entryOf (t .x) (t .y) (t .z)), length-map list entryTile, settled-no-longer C (tilesOf list) all, h))
+    settled-fits G (omega (arith, length-map (settledList maxZoom G) (λ (t : Tile). entryOf (t .x) (t .y) (t .z)), length-map list entryTile, settled-list-least-from 0 maxZoom C (λ t p. omega arith) (tilesOf list) all, h))
 
 when-zero : (n : ℕ) (b : Bool) → suc n when b ≡ 0 → b ≡ false
 when-zero n true e = absurd (omega arith)

@@ -39,14 +39,18 @@ module _ {D : ℕ} where
   pub first-cell : (t : Tile) → t .z ≤ D → Holds t (tileAt (t .x * 2 ^ (D - t .z)) (t .y * 2 ^ (D - t .z)) D)
   first-cell t l = record { above = l; inx = shl-shr (t .x) (D - t .z); iny = shl-shr (t .y) (D - t .z) }
 
-  -- the cells of a tile of the map are of the map
-  pub cell-on-map : {t : Tile} {X Y : ℕ} → Valid D t → Holds t (tileAt X Y D) → (X < 2 ^ D) × (Y < 2 ^ D)
-  cell-on-map {t} v h = (bound (h .inx) (v .column), bound (h .iny) (v .row))
+  -- what lies under a tile of the map is of the map
+  pub held-valid : {s t : Tile} → Valid D s → Holds s t → t .z ≤ D → Valid D t
+  held-valid {s} {t} v h l = record { zoom = l; column = bound (h .inx) (v .column); row = bound (h .iny) (v .row) }
     where
-      bound : {n x : ℕ} → n / 2 ^ (D - t .z) ≡ x → x < 2 ^ t .z → n < 2 ^ D
+      bound : {n x : ℕ} → n / 2 ^ (t .z - s .z) ≡ x → x < 2 ^ s .z → n < 2 ^ t .z
       bound {n} e l =
-          let k : t .z + (D - t .z) ≡ D = omega (arith, v .zoom) in
-          subst (λ (i : ℕ). n < 2 ^ i) k (rw pow-add (div-lt-iff-lt-mul (pow-pos (D - t .z)) .0 (rw e l)))
+          let k : s .z + (t .z - s .z) ≡ t .z = omega (arith, h .above) in
+          subst (λ (i : ℕ). n < 2 ^ i) k (rw pow-add (div-lt-iff-lt-mul (pow-pos (t .z - s .z)) .0 (rw e l)))
+
+  -- so are the cells of a tile of the map
+  pub cell-on-map : {t : Tile} {X Y : ℕ} → Valid D t → Holds t (tileAt X Y D) → (X < 2 ^ D) × (Y < 2 ^ D)
+  cell-on-map v h = let w = held-valid v h (omega arith) in (w .column, w .row)
 
 halve : (n d : ℕ) → n / 2 ^ suc d ≡ n / 2 ^ d / 2
 halve n d = rw (← add-one d, shr-shr n d 1)
