@@ -41,7 +41,8 @@ pub fn simplify_v1(list: &[u64], minzoom: OptionU8, out: &mut [u64]) -> Count
 }
 
 // Tiles under a listed ancestor are dropped; then families whose parent's zoom is at least the minimum become the parent, until none
-// is left. At minimum zoom 0 the answer is settled.
+// is left. At minimum zoom 0 the answer is settled. What it is above that, where no tile listed has a lesser zoom, the crate `floor`
+// shows.
 pub fn simplify(list: &[u64], minzoom: OptionU8, out: &mut [u64]) -> Count
     ensures { λ r. ⌜ left r (now (out .exit)) ≡ simplifyOf (now (list .entry)) (given minzoom 0) (now (out .entry)) ⌝ }
 {

@@ -33,8 +33,8 @@ unfolding placesRefusal
 answers sent kept items a e = fun-ext (λ memory. rw (a, e))
 
 -- tiles of the map in order, all in the first column
-record InFirstColumn (ts : List Tile) : Type 0 where
-  of-map : (t : Tile) → List·Memᴰ t ts → Valid maxZoom t
+pub record InFirstColumn (ts : List Tile) : Type 0 where
+  pub of-map : (t : Tile) → List·Memᴰ t ts → Valid maxZoom t
   in-order : Ordered ts
   first : (t : Tile) → List·Memᴰ t ts → t .x ≡ 0
 
@@ -120,7 +120,7 @@ one-here : InFirstColumn one
 unfolding maxZoom
 one-here = one-more tile (record { zoom = omega arith; column = omega arith; row = omega arith }) refl (λ u m. absurd (List·Memᴰ·not-nil m)) none-here
 
-both-here : InFirstColumn both
+pub both-here : InFirstColumn both
 unfolding maxZoom
 both-here = one-more tile (one-here .of-map tile (List·Memᴰ·head refl)) refl (λ u m. after u (List·Memᴰ·eq-of-singleton m)) child-here
   where

@@ -1,0 +1,3 @@
+pub mod Floor
+pub mod Laws
+pub mod Theorems
