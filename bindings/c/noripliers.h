@@ -613,7 +613,9 @@ NORI_NODISCARD uint8_t nori_simplify_v1(const uint64_t *list, size_t list_count,
                                         uint64_t *out, size_t out_places, uint64_t *count);
 
 /* Drops each tile that has a listed ancestor, then merges four siblings wherever their parent's
- * zoom is at least minzoom. At 0 the answer is settled.
+ * zoom is at least minzoom. At 0 the answer is settled. Where every tile listed has zoom minzoom
+ * or more, equal ground gives equal lists, and no list of tiles of zoom minzoom or more that
+ * covers just that ground is shorter.
  * Refused: 6, 7, 12. */
 NORI_NODISCARD uint8_t nori_simplify(const uint64_t *list, size_t list_count, uint8_t minzoom,
                                      uint64_t *out, size_t out_places, uint64_t *count);

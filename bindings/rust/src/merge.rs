@@ -52,6 +52,11 @@ pub fn simplify_v1(tiles: &[Tile], minzoom: Option<u8>) -> Result<Vec<Tile>, Err
 /// where its zoom is at least `minzoom`, until nothing changes. At 0 the answer is the least list
 /// that covers the same ground, which is what an [`Area`](crate::Area) keeps.
 ///
+/// For whoever never pages above a zoom, `minzoom` is a floor: where every tile listed has zoom
+/// `minzoom` or more, equal ground gives equal lists, and no list of tiles of zoom `minzoom` or
+/// more that covers just that ground is shorter. It is the list settled at 0 with each tile above
+/// the floor replaced by its descendants there.
+///
 /// # Examples
 /// ```
 /// use noripliers::{Tile, simplify};
@@ -59,6 +64,17 @@ pub fn simplify_v1(tiles: &[Tile], minzoom: Option<u8>) -> Result<Vec<Tile>, Err
 /// let tiles = Tile::root().children(Some(3))?;
 /// assert_eq!(simplify(&tiles, None)?, [Tile::root()]);
 /// assert_eq!(simplify(&tiles, Some(1))?.len(), 4);
+///
+/// // The same ground above the floor 2, by tiles of zoom 2 and 4 and by tiles of zoom 3.
+/// let [quarter, beside] = [Tile::from_quadkey("0")?, Tile::from_quadkey("10")?];
+/// let planned = [quarter.children(Some(2))?, beside.children(Some(4))?].concat();
+/// let surveyed = [quarter.children(Some(3))?, beside.children(Some(3))?].concat();
+/// let mut settled = quarter.children(Some(2))?;
+/// settled.push(beside);
+/// settled.sort();
+/// assert_eq!(simplify(&planned, Some(2))?, settled);
+/// assert_eq!(simplify(&surveyed, Some(2))?, settled);
+/// assert_eq!(simplify(&planned, None)?, [quarter, beside]);
 /// # Ok::<(), noripliers::Error>(())
 /// ```
 pub fn simplify(tiles: &[Tile], minzoom: Option<u8>) -> Result<Vec<Tile>, Error> {
