@@ -5,13 +5,12 @@ use utiles_core::{from_id, to_id};
 use crate::paper::{self, DEEPEST};
 use crate::record::{List, counted};
 use crate::sample::{Random, Xyz};
+use crate::window::{CHILDREN, Set, Window, ground, settled};
 
 const BUILDS: usize = 460;
 const MOST_DEPTH: u8 = 6;
 // How many entries a list that is handed in has at most, so that lines are short.
 const LONGEST: usize = 40;
-// The places of four children, in order.
-const CHILDREN: [(u32, u32); 4] = [(0, 0), (0, 1), (1, 0), (1, 1)];
 
 pub fn write(list: &mut List) {
     let mut random = Random::new();
@@ -52,79 +51,11 @@ fn asked(list: &mut List, entries: &[u64]) {
     }
 }
 
-// A tile of the map, and how many zooms of the tiles under it are looked at.
-struct Window {
-    top: Xyz,
-    depth: u8,
-}
-
-impl Window {
-    fn side(&self) -> usize {
-        1 << self.depth
-    }
-
-    fn all(&self, value: bool) -> Set {
-        vec![value; self.side() * self.side()]
-    }
-
-    // The entry of the tile at a place among those `down` zooms below the top.
-    fn entry(&self, down: u8, i: usize, j: usize) -> u64 {
-        let (x, y, z) = self.top;
-        to_id((x << down) + i as u32, (y << down) + j as u32, z + down)
-    }
-}
-
-// Of each deepest tile of a window, column by column, whether it is in the set.
-type Set = Vec<bool>;
-
-// The places of the deepest tiles inside the tile at a place among those `down` zooms below the top.
-fn inside(window: &Window, down: u8, i: usize, j: usize) -> Vec<usize> {
-    let wide = window.side() >> down;
-    let column = move |x: usize| (0..wide).map(move |y| x * window.side() + j * wide + y);
-    (i * wide..(i + 1) * wide).flat_map(column).collect()
-}
-
-fn full(window: &Window, set: &Set, down: u8, i: usize, j: usize) -> bool {
-    inside(window, down, i, j).iter().all(|&place| set[place])
-}
-
-// The full tiles whose parent is not full.
-fn settled(window: &Window, set: &Set) -> Vec<u64> {
-    let mut entries = Vec::new();
-    for down in 0..=window.depth {
-        for i in 0..1 << down {
-            for j in 0..1 << down {
-                let under_full = down > 0 && full(window, set, down - 1, i / 2, j / 2);
-                if full(window, set, down, i, j) && !under_full {
-                    entries.push(window.entry(down, i, j));
-                }
-            }
-        }
-    }
-    entries
-}
-
-fn ground(window: &Window, entries: &[u64]) -> Set {
-    let mut set = window.all(false);
-    for &entry in entries {
-        let tile = from_id(entry);
-        let down = tile.z - window.top.2;
-        let (i, j) = (tile.x - (window.top.0 << down), tile.y - (window.top.1 << down));
-        for place in inside(window, down, i as usize, j as usize) {
-            set[place] = true;
-        }
-    }
-    set
-}
-
 fn window(random: &mut Random) -> Window {
     let depth = random.pick(&[1, 2, 3, 3, 3, 4, 4, 5, 5, MOST_DEPTH]);
     let lowest = DEEPEST - depth;
     let z = if random.below(2) == 0 { lowest } else { random.below(u64::from(lowest) + 1) as u8 };
-    let last = (1 << z) - 1;
-    let (x, y, _) = random.tile(z);
-    let top = random.pick(&[(x, y, z), (x, y, z), (x, 0, z), (0, 0, z), (last, last, z), (0, last, z), (last, 0, z)]);
-    Window { top, depth }
+    Window::placed(random, z, depth)
 }
 
 #[derive(Clone, Copy, PartialEq)]

@@ -14,6 +14,7 @@ mod sample;
 mod sibling_relationship;
 mod tile;
 mod tile_zbox;
+mod window;
 mod zoom;
 
 use record::List;
