@@ -26,6 +26,11 @@ pub fn shuffled(random: &mut Random, entries: &[u64]) -> Vec<u64> {
     if !list.is_empty() {
         list.extend(random.picks(entries, entries.len() / 4));
     }
+    mixed(random, list)
+}
+
+/// In another order.
+pub fn mixed(random: &mut Random, mut list: Vec<u64>) -> Vec<u64> {
     for i in (1..list.len()).rev() {
         list.swap(i, random.below(i as u64 + 1) as usize);
     }

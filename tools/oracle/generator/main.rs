@@ -2,6 +2,7 @@
 mod bbox;
 mod beyond;
 mod builds;
+mod floor;
 mod fns;
 mod lists;
 mod merge;

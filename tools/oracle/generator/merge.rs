@@ -4,6 +4,7 @@ use std::collections::HashSet;
 use utiles_core::merge as rust;
 use utiles_core::{Tile, from_id, to_id};
 
+use crate::floor;
 use crate::lists::{ancestors, level, shuffled, under};
 use crate::paper::{self, DEEPEST};
 use crate::record::{List, counted};
@@ -31,6 +32,7 @@ pub fn write(list: &mut List) {
         calls(list, Some(1), entries.len(), &entries);
         calls(list, Some(1), 0, &entries);
     }
+    floor::write(list);
 }
 
 // The three functions: the minimum zoom, how many places are lent, and the list.
@@ -46,7 +48,8 @@ fn calls(list: &mut List, m: Option<u8>, places: usize, entries: &[u64]) {
     list.call("simplify", &args, refusal, 1, || in_order(rust::simplify(&set(), m)));
 }
 
-fn in_order(set: HashSet<Tile>) -> Vec<u64> {
+/// The tiles of a set, as a list.
+pub fn in_order(set: HashSet<Tile>) -> Vec<u64> {
     let mut tiles: Vec<Tile> = set.into_iter().collect();
     tiles.sort();
     counted(&tiles.iter().map(|t| to_id(t.x, t.y, t.z)).collect::<Vec<u64>>())

@@ -1,4 +1,5 @@
-//! A list of calls and answers: first those that the Rust was run for, then those that document 01 decides alone.
+//! A list of calls and answers: first those that the Rust was run for, then those that document 01 decides alone, then those
+//! that bitmaps answer by the words of document 02.
 use std::collections::{BTreeMap, HashSet};
 use std::panic::{AssertUnwindSafe, catch_unwind, set_hook, take_hook};
 
@@ -11,11 +12,13 @@ pub struct List {
     run: String,
     ruled: String,
     refused: String,
-    // Of each function: the calls run, ruled and refused.
-    counts: BTreeMap<String, [usize; 3]>,
+    claimed: String,
+    // Of each function: the calls run, ruled, refused and claimed.
+    counts: BTreeMap<String, [usize; 4]>,
     builds: usize,
     seen: HashSet<String>,
-    // Calls inside the domain at which the Rust stops, or is otherwise than document 01 says.
+    // Calls inside the domain at which the Rust stops, or is otherwise than document 01 or a bitmap says; and answers that
+    // come out differently in different ways.
     pub surprises: Vec<String>,
 }
 
@@ -64,6 +67,13 @@ impl List {
         self.counts.entry(name.to_string()).or_default()[2] += 1;
     }
 
+    /// A call that document 02 claims something of, with the answer that a bitmap gives.
+    pub fn claim(&mut self, name: &str, args: &[u64], values: &[u64]) {
+        let Some(call) = self.first(name, args) else { return };
+        self.claimed += &line(&call, 0, values);
+        self.counts.entry(name.to_string()).or_default()[3] += 1;
+    }
+
     /// The line that a build starts with. It is no call, and has no answer.
     pub fn begin(&mut self) {
         self.ruled += "build =\n";
@@ -90,6 +100,9 @@ impl List {
         if !self.refused.is_empty() {
             text += &format!("# refusals by document 01, not run\n{}", self.refused);
         }
+        if !self.claimed.is_empty() {
+            text += &format!("# answers by document 02, from bitmaps\n{}", self.claimed);
+        }
         text
     }
 
@@ -98,8 +111,11 @@ impl List {
     }
 
     pub fn print_counts(&self) {
-        for (name, [run, ruled, refused]) in &self.counts {
+        for (name, [run, ruled, refused, claimed]) in &self.counts {
             println!("    {name}: {run} run, {ruled} answers and {refused} refusals by document 01");
+            if *claimed > 0 {
+                println!("    {name}: {claimed} answers by document 02");
+            }
         }
         if self.builds > 0 {
             println!("    in {} builds", self.builds);

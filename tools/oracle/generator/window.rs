@@ -21,6 +21,10 @@ impl Window {
         Self { top: random.pick(&places), depth }
     }
 
+    pub fn deepest(&self) -> u8 {
+        self.top.2 + self.depth
+    }
+
     fn side(&self) -> usize {
         1 << self.depth
     }
