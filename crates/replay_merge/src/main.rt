@@ -1,4 +1,4 @@
-// Replays the calls of `merge`: prints each line whose answer, or the memory that it left, is not the Rust's.
+// Replays the calls of `merge`: prints each line whose answer, or the memory that it left, is not the list's.
 use merge::MergeAnswer;
 use replay::answers;
 use replay::args;
