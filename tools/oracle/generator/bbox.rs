@@ -2,7 +2,7 @@
 use utiles_core::{BBox, LngLat};
 
 use crate::places::{Places, any, near};
-use crate::record::{List, counted};
+use crate::record::List;
 use crate::sample::Random;
 
 const TABLE: [f64; 12] =
