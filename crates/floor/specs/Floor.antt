@@ -47,7 +47,7 @@ abbrev pub inListOrder : List ℕ → List ℕ
 inListOrder list = entriesInOrder (listed list)
 
 pub record AboveTheFloor (m : ℕ) (list memory : List ℕ) : Type 0 where
-  -- "equal ground gives equal lists": of any two lists of that kind, and of no others
+  -- "equal ground gives equal lists": of any two lists of that kind, and only equal ground does
   pub same-ground : (other lent : List ℕ) → AtFloor m other lent
       → (settledAt m list memory ≡ settledAt m other lent) ↔ Same maxZoom (groundOf list) (groundOf other)
   -- "no exact cover by tiles of zoom m or deeper is shorter": repeats and overlaps allowed
