@@ -56,7 +56,8 @@ module _ (rs : List (Lent ℕ)) (ks : List Kept) (b : Beside rs ks) where
   same-set (earlier i) X Y p q = settled-ground (setAt ks i) X Y p q
 
 -- what a call gives, accepted and refused, beside what is kept
-agree-given : (r : Lent ℕ) (n : ℕ) (items : List ℕ) (G : ℕ → ℕ → Bool) → Gives r n items → (n ≡ 0 → items ≡ settledEntries G) → Agree r (keep n G)
+agree-given : (r : Lent ℕ) (n : ℕ) (items : List ℕ) (G : ℕ → ℕ → Bool) → Gives r n items → (n ≡ 0 → items ≡ settledEntries G)
+    → Agree r (keep n G)
 agree-given r zero items G g e = record { refusal = g .number; answer = g .front ∙ e refl; count = g .count }
 agree-given r (suc n) items G g e = record { refusal = g .number; answer = g .front ∙ sym settled-none; count = g .count }
 

@@ -197,10 +197,13 @@ module _ (m : ℕ) (limit : m ≤ maxZoom) (G : ℕ → ℕ → Bool) where
       into : (t : Tile) → List·Memᴰ t from-m → Valid maxZoom t × (listed (entriesOf cut) t ≡ true)
       into t i =
           let j = cut-is t .1 i in
-          (cut-valid t j, names entryTile (entriesOf cut) (entryOf (t .x) (t .y) (t .z)) t (entry-in cut cut-valid t j) (entry-back cut cut-valid t j))
+          let n = entryOf (t .x) (t .y) (t .z) in
+          (cut-valid t j, names entryTile (entriesOf cut) n t (entry-in cut cut-valid t j) (entry-back cut cut-valid t j))
 
       of : (t : Tile) → Valid maxZoom t → listed (entriesOf cut) t ≡ true → List·Memᴰ t from-m
-      of t v e = let s = named-by entryTile (entriesOf cut) t e in cut-is t .0 (Memᴰ·cast (sym (s .2)) (entry-of cut cut-valid (s .0) (s .1)))
+      of t v e =
+          let s = named-by entryTile (entriesOf cut) t e in
+          cut-is t .0 (Memᴰ·cast (sym (s .2)) (entry-of cut cut-valid (s .0) (s .1)))
 
   pub cut-length : length (cutDown m (settledEntries G)) ≡ length (settledListFrom m maxZoom G)
   cut-length =

@@ -30,7 +30,8 @@ module _ (m : ℕ) (list memory : List ℕ) (a : AtFloor m list memory) where
   same-ground : (other lent : List ℕ) → AtFloor m other lent
       → (settledAt m list memory ≡ settledAt m other lent) ↔ Same maxZoom (groundOf list) (groundOf other)
   same-ground other lent b = (
-    λ e X Y p q. sym (answer-covers m list memory a X Y p q) ∙ (ap (λ (l : List ℕ). groundOf l X Y) e ∙ answer-covers m other lent b X Y p q),
+    λ e X Y p q. sym (answer-covers m list memory a X Y p q)
+        ∙ (ap (λ (l : List ℕ). groundOf l X Y) e ∙ answer-covers m other lent b X Y p q),
     λ e. answer-is m list memory a
         ∙ (ap entriesOf (settled-list-same-from m maxZoom (a .limit) (groundOf list) (groundOf other) e) ∙ sym (answer-is m other lent b)),
   )
@@ -65,7 +66,8 @@ module _ (m : ℕ) (list memory : List ℕ) (a : AtFloor m list memory) where
     where
       named : NoTiles (settledAt m list memory) → ⊥
       named (n, i, none) =
-          let s = in-map (λ (t : Tile). entryOf (t .x) (t .y) (t .z)) (settledListFrom m maxZoom (groundOf list)) (rw (answer-is m list memory a) at i) in
+          let tiles = settledListFrom m maxZoom (groundOf list) in
+          let s = in-map (λ (t : Tile). entryOf (t .x) (t .y) (t .z)) tiles (rw (answer-is m list memory a) at i) in
           none (s .0) (settled-list-settled-from m maxZoom (groundOf list) .of-map (s .0) (s .1)) (sym (s .2))
 
   settled-at-0 : settledAt 0 list memory ≡ settledEntries (groundOf list)
@@ -122,4 +124,6 @@ simplify-v1-is-left-out memory room = record {
     kind = record { limit = omega (arith, at-least-29); floor = above; accepted = simplify-gives 1 (entriesOf both) memory .number ∙ fine }
 
     shorter : settledAt 1 (entriesOf both) memory ≡ entriesOf one
-    shorter = accepted-items (simplifyOf (entriesOf both) 1 memory) _ _ (simplify-gives 1 (entriesOf both) memory) (kind .accepted) ∙ simplify-keeps-one
+    shorter =
+        accepted-items (simplifyOf (entriesOf both) 1 memory) _ _ (simplify-gives 1 (entriesOf both) memory) (kind .accepted)
+        ∙ simplify-keeps-one

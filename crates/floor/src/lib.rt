@@ -1,1 +1,1 @@
-// What `simplify` at a minimum zoom answers for lists of tiles that are no shallower: only definitions and theorems, in specs/. There is no code.
+// What `simplify` answers above a floor, its minimum zoom: only definitions and theorems, in specs/. There is no code.

@@ -87,7 +87,8 @@ module _ (runs : List (List ℕ)) where
         let l = length-map runs (λ (r : List ℕ). keyEntry (keyOfRun r)) in
         let m = length-replicate {A = ℕ} formPlaces 0 in
         let e = too-many (runEntries runs) places (runs-are-entries runs fine) (omega (arith, l, k)) (omega (arith, l, m, h)) in
-        let n : 12 ≡ keysRefusal runs else simplifyOf (runEntries runs) 0 places .number = rw fine (sym (simplify-gives 0 (runEntries runs) places .number ∙ e)) in
+        let n : 12 ≡ keysRefusal runs else simplifyOf (runEntries runs) 0 places .number =
+        rw fine (sym (simplify-gives 0 (runEntries runs) places .number ∙ e)) in
         refused-given Memory exit _ _ n
 
 -- the operands, the left one before the right one

@@ -72,7 +72,8 @@ unfolding placesRefusal
 simplify-alike list m k e =
     let f : placesRefusal list m ≡ placesRefusal list k = rw e in
     same-given 0 (simplifyOf list 0 m) (simplifyOf list 0 k) (placesRefusal list k) _
-    (subst (λ (n : ℕ). Gives (simplifyOf list 0 m) n (entriesInOrder (simplified maxZoom 0 (listed list)))) f (simplify-gives 0 list m)) (simplify-gives 0 list k)
+    (subst (λ (n : ℕ). Gives (simplifyOf list 0 m) n (entriesInOrder (simplified maxZoom 0 (listed list)))) f (simplify-gives 0 list m))
+    (simplify-gives 0 list k)
 
 refused-alike : (verb : Verb) (a b m k : List ℕ) → length m ≡ length k → operatedRefusal verb a b m ≡ operatedRefusal verb a b k
 unfolding pairPlacesRefusal

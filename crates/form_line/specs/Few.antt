@@ -52,7 +52,13 @@ settled-fits G h = record { entries = settled-entries-settled G .0; few = h }
 covered-fits : {G : ℕ → ℕ → Bool} {P : Tile → Type 0} → Cover maxZoom G P → (list : List ℕ) → ((t : Tile) → P t → List·Memᴰ t (tilesOf list))
     → length list ≤ formPlaces → Fits (settledEntries G)
 covered-fits {G} C list all h =
-    settled-fits G (omega (arith, length-map (settledList maxZoom G) (λ (t : Tile). entryOf (t .x) (t .y) (t .z)), length-map list entryTile, settled-list-least-from 0 maxZoom C (λ t p. omega arith) (tilesOf list) all, h))
+    settled-fits G (omega (
+      arith,
+      length-map (settledList maxZoom G) (λ (t : Tile). entryOf (t .x) (t .y) (t .z)),
+      length-map list entryTile,
+      settled-list-least-from 0 maxZoom C (λ t p. omega arith) (tilesOf list) all,
+      h,
+    ))
 
 when-zero : (n : ℕ) (b : Bool) → suc n when b ≡ 0 → b ≡ false
 when-zero n true e = absurd (omega arith)

@@ -1,5 +1,5 @@
--- The tiles of zoom m or more that are full while their parent is not, or has a zoom less than m; and which tiles of a kind are those of the
--- ground that they cover.
+-- The tiles of zoom m or more that are full while their parent is not, or has a zoom less than m; and which tiles of a kind are those of
+-- the ground that they cover.
 use mathlib.Core.Path.{_≡_, refl, sym, ap, _∙_, subst}
 use mathlib.Core.Bool.{Bool, true, false, not, _&&_, true≢false}
 use Prim.Native.Nat.{ℕ, zero, suc, _+_, _-_, _^_, _≤_, _<_}
@@ -51,7 +51,8 @@ module _ (m D : ℕ) (G : ℕ → ℕ → Bool) where
       let p = and-parts (full G (D - t .z) t) _ (f .1) in
       record { floor = leb-true m (t .z) (f .0); filled = p .0; top = λ h k. clash h (rw (← above t h l) at k) (not-true _ (p .1)) }
     where
-      clash : m < t .z → full G (suc (D - t .z)) (parentTile t) ≡ true → (ltb m (t .z) && full G (suc (D - t .z)) (parentTile t)) ≡ false → ⊥
+      clash : m < t .z → full G (suc (D - t .z)) (parentTile t) ≡ true
+          → (ltb m (t .z) && full G (suc (D - t .z)) (parentTile t)) ≡ false → ⊥
       clash h f n = let s = lt-ltb m (t .z) h in let z : _≡_ {A = ℕ} 0 1 = cc in omega arith
 
   pub when-largest : (t : Tile) → t .z ≤ D → Largest m D G t → largestFrom m D G t ≡ true
