@@ -24,7 +24,6 @@ use Rattle.difference.specs.Walk.{sets-front}
 use Rattle.errors.specs.Answer.{Lent, written, _when_, _else_}
 use Rattle.errors.specs.Cases.{left}
 use Rattle.errors.specs.Memory.{written-short, written-done}
-use Rattle.errors.specs.declared.Check.the-variants as check
 use Rattle.errors.specs.declared.Count.the-variants as count
 use Rattle.errors.specs.declared.Refusal.the-variants.{Memory}
 use Rattle.ground.specs.Largest.{Full, Cover}

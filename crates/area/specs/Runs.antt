@@ -3,7 +3,7 @@ use mathlib.Core.Path.{_≡_, refl, sym, ap, _∙_, subst}
 use mathlib.Core.Bool.{true}
 use mathlib.Core.HLevel.{⊥-prop}
 use mathlib.Core.List.{List, [], _∷_, _++_, map, List·Memᴰ, List·Memᴰ·append-cases, List·Nodup, Pairwise·nil, nodup-cons}
-use mathlib.Core.Logic.{_⊎_, ⊎-elim, ∥∥₁-elim}
+use mathlib.Core.Logic.{⊎-elim, ∥∥₁-elim}
 use Prim.Native.Nat.{ℕ, _+_, _-_, _≤_, _<_}
 use native.Mathlib.Omega.{arith}
 use lib.ListN.{length, take, drop, getD, length-map, length-drop, take-append-drop}
@@ -17,7 +17,6 @@ use Rattle.tile_set.specs.Set.{simplified}
 use mathlib.Core.Bool.{true, false}
 use Rattle.difference.specs.Left.{without}
 use Rattle.errors.specs.Answer.{written}
-use Rattle.errors.specs.declared.Check.the-variants as check
 use Rattle.errors.specs.declared.Count.the-variants as count
 use Rattle.ground.specs.Members.{no-longer}
 use Rattle.quadtree.specs.Lists.{rankEntry, TileNumbers}

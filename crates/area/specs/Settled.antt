@@ -23,7 +23,7 @@ use Rattle.tile_list.specs.Laws.{named-by, names, listed-within, map-tile}
 use Rattle.tile_list.specs.List.{listed}
 use Rattle.tile_set.specs.InOrder.{Ordered}
 use Rattle.tile_set.specs.Merged.{Apart, is-false, whole-all}
-use Rattle.tile_set.specs.Set.{ancestor, parentTile, child, whole}
+use Rattle.tile_set.specs.Set.{parentTile, child, whole}
 use Rattle.tile_set.specs.Theorems.{Covered}
 
 in-tiles : (list : List ℕ) (t : Tile) → List·Memᴰ t (tilesOf list) → listed list t ≡ true

@@ -16,7 +16,7 @@ use Rattle.area.specs.declared.Work.{Work}
 use Rattle.area.specs.declared.Work.the-variants.{Union, Common, Difference}
 use Rattle.bits.specs.Tests.{and-parts, not-true, not-false, allOf}
 use Rattle.constants.specs.Limits.{maxEntries}
-use Rattle.errors.specs.Answer.{numberOf, _when_}
+use Rattle.errors.specs.Answer.{numberOf}
 use Rattle.errors.specs.Cases.{checkNumber, left}
 use Rattle.errors.specs.Laws.{positive, never-zero, check-fine, check-refused}
 use Rattle.errors.specs.Memory.{written-refused}

@@ -10,7 +10,7 @@ ghost use mathlib.Core.Logic.{_⊎_};
 ghost use Prim.Native.Nat.{_+_, _*_, _≤_};
 ghost use lib.ListN.{length, take, drop};
 ghost use Rattle.area.specs.Area.{unionOf, commonOf, differenceOf};
-ghost use Rattle.area.specs.Work.{workOf, joinOf, placesOf, KeyedBoth, SettledBoth, Placed, Ready, Parted, Made, Remains, madeSet, leftSet};
+ghost use Rattle.area.specs.Work.{workOf, joinOf, placesOf, KeyedBoth, SettledBoth, Placed, Ready, Parted, Made, Remains, madeSet};
 ghost use Rattle.constants.specs.Limits.{maxEntries, maxZoom};
 ghost use Rattle.difference.specs.Left.{without};
 ghost use Rattle.errors.specs.Cases.{left};

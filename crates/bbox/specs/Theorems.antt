@@ -5,7 +5,7 @@ use mathlib.Core.Bool.{Bool, true, false, not, _&&_, _||_, cond, or-false}
 use mathlib.Core.List.{List, [], _∷_}
 use lib.IntN.{pos, negsuc}
 use lib.Dec.{T}
-use lib.Ieee.{nan, fin, isNan, lt, le, ofInt}
+use lib.Ieee.{nan, isNan, lt, le, ofInt}
 use lib.Ieee.Bits.{is-true, is-false}
 use lib.Ieee.Fits.{and-i, and-l, and-r}
 use Rattle.bbox.specs.declared.BBox.{BBox}
@@ -200,11 +200,6 @@ meeting-boxes-share a b ha hb =
         (order.le-not-above (c .west) (c .east) (lngs c h))
 
 -- ---- The parts of a box
-
--- 180 and -180 are exactly ±45 · 2^2.
-pub map-edges : (mapWest ≡ fin true 45 (pos 2)) × (mapEast ≡ fin false 45 (pos 2))
-unfolding ofInt
-map-edges = (refl, refl)
 
 abbrev pub anyOf : List BBox → (BBox → Bool) → Bool
 anyOf [] test = false

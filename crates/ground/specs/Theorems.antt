@@ -1,6 +1,6 @@
 -- The one settled list of a ground, over any deepest zoom D: it is there for every set, only one is, and no list of tiles with that ground
 -- is shorter. It is the case m = 0 of `Floor`. Last, that the ground of a list is what the theorems on sets of tiles call covered.
-use mathlib.Core.Path.{_≡_, refl, sym, ap, _∙_}
+use mathlib.Core.Path.{_≡_, refl}
 use mathlib.Core.Logic.{_↔_}
 use mathlib.Core.Bool.{Bool, true}
 use mathlib.Core.List.{List, List·Memᴰ}
@@ -34,13 +34,6 @@ module _ (D : ℕ) where
   -- it is the only settled list with that ground
   pub one-settled-list : (G : ℕ → ℕ → Bool) (l : List Tile) → Settled D l → Same D (ground D l) G → l ≡ settledList D G
   one-settled-list G l s = one-settled-list-from 0 D G l (settled-from-0 l .0 s)
-
-  -- settled lists are the same exactly where their grounds are
-  pub settled-lists-same : (a b : List Tile) → Settled D a → Settled D b → (a ≡ b) ↔ Same D (ground D a) (ground D b)
-  settled-lists-same a b s t = (
-    λ e X Y p q. ap (λ (l : List Tile). ground D l X Y) e,
-    λ e. one-settled-list (ground D b) a s e ∙ sym (one-settled-list (ground D b) b t (λ X Y p q. refl)),
-  )
 
   -- sets with the same tiles of the map have the same list
   pub settled-list-same : (G H : ℕ → ℕ → Bool) → Same D G H → settledList D G ≡ settledList D H

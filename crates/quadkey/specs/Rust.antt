@@ -197,10 +197,6 @@ to-key x y z m =
     let h : z < 32 = omega (arith, m .zoom) in
     rw (one-shifted 32 z h, lt-ltb _ _ (m .column), lt-ltb _ _ (m .row)) (chars-are x y z (omega arith))
 
--- the mask of `is_quadkey_byte`
-pub char-mask : charMask ≡ 252
-char-mask = refl
-
 pub byte-is-digit : (b : ℕ) → b < 256 → isByte b ≡ isDigit b
 byte-is-digit b h = rw (and-high b 6 2, shr-mod 6 2 h) (pick (leb 48 b) refl (leb b 51) refl)
   where

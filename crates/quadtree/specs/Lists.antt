@@ -86,13 +86,6 @@ pub keys-of-tiles : (placed : Bool) (list : List ℕ) → allOf isEntry list ≡
 keys-of-tiles placed list e =
     map-numbers (entryKey placed) list (λ n m. record { tile = entryTile n; on-map = accepted-entry n (eqb-true _ _ (all-in isEntry list e m)); number = refl })
 
-pub ranks-of-tiles : (placed : Bool) (l : List ℕ) → TileNumbers (sortKey placed) l → TileNumbers rankOf (map (keyRank placed) l)
-ranks-of-tiles placed l all =
-    map-numbers (keyRank placed) l (λ n m. let k = all n m in record { tile = k .tile; on-map = k .on-map; number = ap rankOf (sym (back n k)) })
-  where
-    back : (n : ℕ) (k : TileNumber (sortKey placed) n) → sortTile placed n ≡ k .tile
-    back n k = ap (sortTile placed) (sym (k .number)) ∙ key-tile placed (k .tile) (k .on-map)
-
 map-at : (f : ℕ → ℕ) (l : List ℕ) (i : ℕ) → i < length l → getD (map f l) i 0 ≡ f (getD l i 0)
 map-at f [] i h = absurd (omega arith)
 map-at f (n ∷ l) zero h = refl

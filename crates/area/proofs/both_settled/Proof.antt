@@ -8,9 +8,6 @@ use Rattle.exchange.specs.Laws.{second-part}
 use borrow.Author.Needs.{needs}
 use Rattle.area.proofs.both_settled.Statement.{statement}
 use Rattle.area.proofs.both_settled.Tie as tie
-use Rattle.area.proofs.both_settled.Reads as reads
-use Rattle.area.proofs.both_settled.Lts as lts
-use Rattle.settled.proofs.settled.Reads as settled-reads
 
 slice-relend-prefix-settled : tie.Need-slice-relend-prefix-settled
 slice-relend-prefix-settled c = search needs

@@ -4,10 +4,6 @@ use Rattle.area.specs.Ends.{front-length, front-parted, made-listed}
 use borrow.Author.Needs.{needs}
 use Rattle.area.proofs.join.Statement.{statement}
 use Rattle.area.proofs.join.Tie as tie
-use Rattle.area.proofs.join.Reads as reads
-use Rattle.area.proofs.join.Lts as lts
-use Rattle.area.proofs.made.Reads as made-reads
-use Rattle.tile_list.proofs.finish.Reads as finish-reads
 
 add-both : tie.Need-add-both
 add-both c = search needs

@@ -8,9 +8,6 @@ use Rattle.area.specs.Ends.{join-short, join-done}
 use borrow.Author.Needs.{needs}
 use Rattle.area.proofs.joined.Statement.{statement}
 use Rattle.area.proofs.joined.Tie as tie
-use Rattle.area.proofs.joined.Reads as reads
-use Rattle.area.proofs.joined.Lts as lts
-use Rattle.area.proofs.join.Reads as join-reads
 
 add-both : tie.Need-add-both
 add-both c = search needs

@@ -7,9 +7,6 @@ use Rattle.area.specs.Tests.{no-tile-first, keyed-both}
 use borrow.Author.Needs.{needs}
 use Rattle.area.proofs.keyed.Statement.{statement}
 use Rattle.area.proofs.keyed.Tie as tie
-use Rattle.area.proofs.keyed.Reads as reads
-use Rattle.area.proofs.keyed.Lts as lts
-use Rattle.quadtree.proofs.keys.Reads as keys-reads
 
 slice-relend-prefix-keys : tie.Need-slice-relend-prefix-keys
 slice-relend-prefix-keys c = search needs

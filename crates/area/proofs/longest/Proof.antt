@@ -4,8 +4,6 @@ use mathlib.Core.Path.{refl}
 use native.Mathlib.Omega.{arith}
 use Rattle.area.proofs.longest.Statement.{statement}
 use Rattle.area.proofs.longest.Tie as tie
-use Rattle.area.proofs.longest.Reads as reads
-use Rattle.area.proofs.longest.Lts as lts
 
 returns : tie.Need-returns
 returns c = (omega (arith, c .if1 .taken), omega arith, inr refl)

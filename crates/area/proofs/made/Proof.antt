@@ -7,10 +7,6 @@ use Rattle.area.specs.Work.{Made}
 use borrow.Author.Needs.{needs}
 use Rattle.area.proofs.made.Statement.{statement}
 use Rattle.area.proofs.made.Tie as tie
-use Rattle.area.proofs.made.Reads as reads
-use Rattle.area.proofs.made.Lts as lts
-use Rattle.area.proofs.united.Reads as united-reads
-use Rattle.common.proofs.common.Reads as common-reads
 
 united-requires : tie.Need-united-requires
 united-requires c κs = search needs

@@ -5,9 +5,6 @@ use Rattle.constants.specs.Limits.{maxEntries}
 use borrow.Author.Needs.{needs}
 use Rattle.area.proofs.middle.Statement.{statement}
 use Rattle.area.proofs.middle.Tie as tie
-use Rattle.area.proofs.middle.Reads as reads
-use Rattle.area.proofs.middle.Lts as lts
-use Rattle.area.proofs.work_in.Reads as work-in-reads
 
 slice-aggregate-work-in : tie.Need-slice-aggregate-work-in
 slice-aggregate-work-in c = search needs

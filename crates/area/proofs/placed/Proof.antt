@@ -6,10 +6,6 @@ use Rattle.area.specs.Tests.{placed-no-tile, placed-not-settled, placed-
 use borrow.Author.Needs.{needs}
 use Rattle.area.proofs.placed.Statement.{statement}
 use Rattle.area.proofs.placed.Tie as tie
-use Rattle.area.proofs.placed.Reads as reads
-use Rattle.area.proofs.placed.Lts as lts
-use Rattle.area.proofs.both_settled.Reads as both-settled-reads
-use Rattle.area.proofs.keyed.Reads as keyed-reads
 
 keyed-requires : tie.Need-keyed-requires
 keyed-requires c κs = search needs

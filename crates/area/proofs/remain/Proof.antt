@@ -5,9 +5,6 @@ use Rattle.area.specs.Runs.{parted-left, tail-left}
 use borrow.Author.Needs.{needs}
 use Rattle.area.proofs.remain.Statement.{statement}
 use Rattle.area.proofs.remain.Tie as tie
-use Rattle.area.proofs.remain.Reads as reads
-use Rattle.area.proofs.remain.Lts as lts
-use Rattle.difference.proofs.left.Reads as left-reads
 
 slice-aggregate-left : tie.Need-slice-aggregate-left
 slice-aggregate-left c = let s = c .before .before .before in sym (length-take-le (s .args .n) (s .args .places .now) (s .pre .within))

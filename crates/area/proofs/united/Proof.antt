@@ -5,10 +5,6 @@ use Rattle.area.specs.Runs.{parted-merge, merged-ready, merged-made}
 use borrow.Author.Needs.{needs}
 use Rattle.area.proofs.united.Statement.{statement}
 use Rattle.area.proofs.united.Tie as tie
-use Rattle.area.proofs.united.Reads as reads
-use Rattle.area.proofs.united.Lts as lts
-use Rattle.exchange.proofs.merge.Reads as merge-reads
-use Rattle.settle.proofs.settle.Reads as settle-reads
 
 slice-aggregate-merge : tie.Need-slice-aggregate-merge
 slice-aggregate-merge c = let s = c .before .before .before in sym (length-take-le (s .args .n) (s .args .places .now) (s .pre .0 .within))

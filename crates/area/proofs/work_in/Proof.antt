@@ -7,10 +7,6 @@ use Rattle.area.specs.Tests.{made-ready, not-placed}
 use borrow.Author.Needs.{needs}
 use Rattle.area.proofs.work_in.Statement.{statement}
 use Rattle.area.proofs.work_in.Tie as tie
-use Rattle.area.proofs.work_in.Reads as reads
-use Rattle.area.proofs.work_in.Lts as lts
-use Rattle.area.proofs.placed.Reads as placed-reads
-use Rattle.area.proofs.worked.Reads as worked-reads
 
 add-both : tie.Need-add-both
 add-both c = search needs

@@ -4,10 +4,6 @@ use Rattle.area.specs.declared.Work.the-variants.{Union, Common, Differe
 use borrow.Author.Needs.{needs}
 use Rattle.area.proofs.worked.Statement.{statement}
 use Rattle.area.proofs.worked.Tie as tie
-use Rattle.area.proofs.worked.Reads as reads
-use Rattle.area.proofs.worked.Lts as lts
-use Rattle.area.proofs.joined.Reads as joined-reads
-use Rattle.area.proofs.remaining.Reads as remaining-reads
 
 enum-told : tie.Need-enum-told
 enum-told c = search needs

@@ -4,7 +4,6 @@ use native.Mathlib.Omega.{arith}
 use borrow.Author.Needs.{needs}
 use lib.ListN.{length, getD}
 use Rattle.settle.specs.Places.{IsPlace, room}
-use Rattle.settle.specs.Settle.{tiles}
 use Rattle.difference.specs.Walk.{Behind, behind-more}
 use Rattle.difference.proofs.passed.Statement.{statement}
 use Rattle.difference.proofs.passed.Tie as tie

@@ -12,9 +12,6 @@ use Rattle.families.specs.Laws.{four-short, four-low, four-inner, four-l
 use borrow.Author.Needs.{needs}
 use Rattle.families.proofs.family_at.Statement.{statement}
 use Rattle.families.proofs.family_at.Tie as tie
-use Rattle.families.proofs.family_at.Reads as reads
-use Rattle.families.proofs.family_at.Lts as lts
-use Rattle.families.proofs.fourth.Reads as fourth-reads
 
 -- the four numbers from i on, as the list's own
 module _ (from : ℕ) (quads : List ℕ) (i : ℕ) where

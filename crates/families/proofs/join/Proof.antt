@@ -13,9 +13,6 @@ use Rattle.families.specs.Join.{fourFrom, joinAfter, joinOf}
 use Rattle.families.specs.Laws.{four-true, join-alone, join-family}
 use Rattle.families.proofs.join.Statement.{statement}
 use Rattle.families.proofs.join.Tie as tie
-use Rattle.families.proofs.join.Reads as reads
-use Rattle.families.proofs.join.Lts as lts
-use Rattle.families.proofs.family_at.Reads as family-at-reads
 
 record Mid (from : ℕ) (s₀ s : List ℕ) (count i : ℕ) : Type 0 where
   order : count ≤ i

@@ -6,11 +6,6 @@ use Rattle.tile_list.specs.Laws.{sort-numbers}
 use borrow.Author.Needs.{needs}
 use Rattle.families.proofs.merged.Statement.{statement}
 use Rattle.families.proofs.merged.Tie as tie
-use Rattle.families.proofs.merged.Reads as reads
-use Rattle.families.proofs.merged.Lts as lts
-use Rattle.families.proofs.pass.Reads as pass-reads
-use Rattle.sort.proofs.sort_into.Reads as sort-into-reads
-use Rattle.tile_list.proofs.finish.Reads as finish-reads
 
 sort-into-requires : tie.Need-sort-into-requires
 sort-into-requires c κs = search needs

@@ -10,11 +10,6 @@ use Rattle.families.specs.Once.{passed}
 use borrow.Author.Needs.{needs}
 use Rattle.families.proofs.pass.Statement.{statement}
 use Rattle.families.proofs.pass.Tie as tie
-use Rattle.families.proofs.pass.Reads as reads
-use Rattle.families.proofs.pass.Lts as lts
-use Rattle.families.proofs.first_quad.Reads as first-quad-reads
-use Rattle.families.proofs.join.Reads as join-reads
-use Rattle.sort.proofs.once.Reads as once-reads
 
 once-requires : tie.Need-once-requires
 once-requires c κs = search needs

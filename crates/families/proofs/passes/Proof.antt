@@ -10,9 +10,6 @@ use Rattle.constants.specs.Limits.{maxZoom}
 use Rattle.families.specs.Turns.{Turn, first-turn, next-turn, last-turn, turned-all}
 use Rattle.families.proofs.passes.Statement.{statement}
 use Rattle.families.proofs.passes.Tie as tie
-use Rattle.families.proofs.passes.Reads as reads
-use Rattle.families.proofs.passes.Lts as lts
-use Rattle.families.proofs.sorted_pass.Reads as sorted-pass-reads
 
 abbrev Inv-loop : tie.InvT-loop
 Inv-loop quads₀ count scratch₀ m left₀ zooms₀ quads scratch left zooms = Turn m (take count quads₀) quads left zooms × (length quads ≡ length quads₀) × (length scratch ≡ length scratch₀)

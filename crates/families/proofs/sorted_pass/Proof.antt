@@ -6,10 +6,6 @@ use Rattle.tile_list.specs.Laws.{sort-numbers}
 use borrow.Author.Needs.{needs}
 use Rattle.families.proofs.sorted_pass.Statement.{statement}
 use Rattle.families.proofs.sorted_pass.Tie as tie
-use Rattle.families.proofs.sorted_pass.Reads as reads
-use Rattle.families.proofs.sorted_pass.Lts as lts
-use Rattle.families.proofs.pass.Reads as pass-reads
-use Rattle.sort.proofs.sort.Reads as sort-reads
 
 sort-requires : tie.Need-sort-requires
 sort-requires c κs = search needs

@@ -2,8 +2,6 @@
 use borrow.Author.Needs.{needs}
 use Rattle.merge.proofs.counted.Statement.{statement}
 use Rattle.merge.proofs.counted.Tie as tie
-use Rattle.merge.proofs.counted.Reads as reads
-use Rattle.merge.proofs.counted.Lts as lts
 
 enum-known-answer : tie.Need-enum-known-answer
 enum-known-answer c = search needs

@@ -5,9 +5,6 @@ use Rattle.settle.specs.Lists.{scratch-part}
 use borrow.Author.Needs.{needs}
 use Rattle.merge.proofs.long.Statement.{statement}
 use Rattle.merge.proofs.long.Tie as tie
-use Rattle.merge.proofs.long.Reads as reads
-use Rattle.merge.proofs.long.Lts as lts
-use Rattle.merge.proofs.work_in.Reads as work-in-reads
 
 array-borrow-prefix-scratch : tie.Need-array-borrow-prefix-scratch
 unfolding maxEntries

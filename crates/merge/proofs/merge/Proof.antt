@@ -2,10 +2,6 @@
 use borrow.Author.Needs.{needs}
 use Rattle.merge.proofs.merge.Statement.{statement}
 use Rattle.merge.proofs.merge.Tie as tie
-use Rattle.merge.proofs.merge.Reads as reads
-use Rattle.merge.proofs.merge.Lts as lts
-use Rattle.merge.proofs.run.Reads as run-reads
-use Rattle.tile.proofs.OptionU8.unwrap_or.Reads as unwrap-or-reads
 
 unwrap-or-requires : tie.Need-unwrap-or-requires
 unwrap-or-requires c κs = search needs

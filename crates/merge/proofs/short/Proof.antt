@@ -5,9 +5,6 @@ use Rattle.settle.specs.Lists.{scratch-part}
 use borrow.Author.Needs.{needs}
 use Rattle.merge.proofs.short.Statement.{statement}
 use Rattle.merge.proofs.short.Tie as tie
-use Rattle.merge.proofs.short.Reads as reads
-use Rattle.merge.proofs.short.Lts as lts
-use Rattle.merge.proofs.work_in.Reads as work-in-reads
 
 array-borrow-prefix-scratch : tie.Need-array-borrow-prefix-scratch
 array-borrow-prefix-scratch c = search needs

@@ -4,11 +4,6 @@ use Rattle.merge.specs.declared.Work.the-variants.{Simplify}
 use borrow.Author.Needs.{needs}
 use Rattle.merge.proofs.simplify.Statement.{statement}
 use Rattle.merge.proofs.simplify.Tie as tie
-use Rattle.merge.proofs.simplify.Reads as reads
-use Rattle.merge.proofs.simplify.Lts as lts
-use Rattle.merge.proofs.counted.Reads as counted-reads
-use Rattle.merge.proofs.run.Reads as run-reads
-use Rattle.tile.proofs.OptionU8.unwrap_or.Reads as unwrap-or-reads
 
 unwrap-or-requires : tie.Need-unwrap-or-requires
 unwrap-or-requires c κs = search needs

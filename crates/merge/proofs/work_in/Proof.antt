@@ -10,11 +10,6 @@ use Rattle.quadtree.specs.Lists.{keys-refused, keys-fine, keys-of-tiles}
 use borrow.Author.Needs.{needs}
 use Rattle.merge.proofs.work_in.Statement.{statement}
 use Rattle.merge.proofs.work_in.Tie as tie
-use Rattle.merge.proofs.work_in.Reads as reads
-use Rattle.merge.proofs.work_in.Lts as lts
-use Rattle.merge.proofs.sorted_by.Reads as sorted-by-reads
-use Rattle.merge.proofs.worked.Reads as worked-reads
-use Rattle.quadtree.proofs.keys.Reads as keys-reads
 
 sorted-by-requires : tie.Need-sorted-by-requires
 sorted-by-requires c κs = search needs

@@ -10,11 +10,6 @@ use Rattle.quadtree.specs.Lists.{sortKey, TileNumbers}
 use borrow.Author.Needs.{needs}
 use Rattle.merge.proofs.worked.Statement.{statement}
 use Rattle.merge.proofs.worked.Tie as tie
-use Rattle.merge.proofs.worked.Reads as reads
-use Rattle.merge.proofs.worked.Lts as lts
-use Rattle.ancestors.proofs.simplified_v1.Reads as simplified-v1-reads
-use Rattle.families.proofs.merged.Reads as merged-reads
-use Rattle.settle.proofs.simplified.Reads as simplified-reads
 
 -- what is asked of the keys, once the work is known
 asked : (work known : Work) (keys out : List ℕ) → work ≡ known → TileNumbers (sortKey (sortedBy work)) keys × (length keys ≡ length out)

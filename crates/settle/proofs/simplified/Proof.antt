@@ -6,11 +6,6 @@ use Rattle.tile_list.specs.Laws.{sort-numbers}
 use borrow.Author.Needs.{needs}
 use Rattle.settle.proofs.simplified.Statement.{statement}
 use Rattle.settle.proofs.simplified.Tie as tie
-use Rattle.settle.proofs.simplified.Reads as reads
-use Rattle.settle.proofs.simplified.Lts as lts
-use Rattle.settle.proofs.settle.Reads as settle-reads
-use Rattle.sort.proofs.sort_into.Reads as sort-into-reads
-use Rattle.tile_list.proofs.finish.Reads as finish-reads
 
 sort-into-requires : tie.Need-sort-into-requires
 sort-into-requires c κs = search needs

@@ -5,12 +5,6 @@ use Rattle.tile_list.specs.Finish.{front-ranks, front-entries}
 use borrow.Author.Needs.{needs}
 use Rattle.tile_list.proofs.entries.Statement.{statement}
 use Rattle.tile_list.proofs.entries.Tie as tie
-use Rattle.tile_list.proofs.entries.Reads as reads
-use Rattle.tile_list.proofs.entries.Lts as lts
-use Rattle.quadtree.proofs.entries.Reads as entries-reads
-use Rattle.quadtree.proofs.ranks.Reads as ranks-reads
-use Rattle.sort.proofs.once.Reads as once-reads
-use Rattle.exchange.proofs.sort.Reads as sort-reads
 
 ranks-requires : tie.Need-ranks-requires
 ranks-requires c κs = search needs

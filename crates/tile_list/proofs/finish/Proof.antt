@@ -7,10 +7,6 @@ use Rattle.tile_list.specs.Finish.{finish-listed}
 use borrow.Author.Needs.{needs}
 use Rattle.tile_list.proofs.finish.Statement.{statement}
 use Rattle.tile_list.proofs.finish.Tie as tie
-use Rattle.tile_list.proofs.finish.Reads as reads
-use Rattle.tile_list.proofs.finish.Lts as lts
-use Rattle.sort.proofs.clear.Reads as clear-reads
-use Rattle.tile_list.proofs.entries.Reads as entries-reads
 
 slice-relend-prefix-entries : tie.Need-slice-relend-prefix-entries
 slice-relend-prefix-entries c = search needs
