@@ -8,13 +8,14 @@ use Rattle.area.specs.Area.{groundOf, settledEntries, pairPlacesRefusal, unionE
 use Rattle.area.specs.Grounds.{settled-ground, settled-none, simplify-entries, settled-same}
 use Rattle.builds.specs.Account.{told, Kept, nothingKept, setAt, setFor, entriesFor, setOf, refusalOf, keep, keptNext, account}
 use Rattle.builds.specs.Build.{Operand, own, earlier, Operation, settling, union, commonPart, difference, Build}
-use Rattle.builds.specs.Build.{answerOf, nothingBack, handedIn, performed, comesBack, run}
-use Rattle.builds.specs.Gives.{Gives, listed-gives, lent-gives}
+use Rattle.builds.specs.Build.{nothingBack, handedIn, performed, comesBack, run}
 use Rattle.builds.specs.InTurn.{inTurn}
 use Rattle.constants.specs.Limits.{maxZoom}
 use Rattle.errors.specs.Answer.{Lent}
+use Rattle.errors.specs.Gives.{answerOf, Gives, lent-gives}
 use Rattle.errors.specs.Laws.{else-zero}
 use Rattle.ground.specs.Ground.{Same}
+use Rattle.tile_list.specs.Gives.{listed-gives}
 use Rattle.tile_list.specs.Laws.{accepted-entries}
 use Rattle.tile_list.specs.List.{listed, entriesInOrder, placesRefusal, listAnswer}
 use Rattle.tile_set.specs.Set.{simplified}

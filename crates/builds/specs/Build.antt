@@ -2,10 +2,11 @@
 -- earlier in the build; and what comes back of them, by the definitions that the four functions promise.
 use mathlib.Core.List.{List, []}
 use Prim.Native.Nat.{ℕ}
-use lib.ListN.{getD, take}
+use lib.ListN.{getD}
 use Rattle.area.specs.Area.{unionOf, commonOf, differenceOf}
 use Rattle.builds.specs.InTurn.{inTurn}
 use Rattle.errors.specs.Answer.{Lent}
+use Rattle.errors.specs.Gives.{answerOf}
 use Rattle.merge.specs.Merge.{simplifyOf}
 
 -- a list handed in: the caller's own, or the answer of an earlier call, by that call's number in the build from 0 on
@@ -26,10 +27,6 @@ pub record Call : Type 0 where
 
 abbrev pub Build : Type 0
 Build = List Call
-
--- "the answer is the first places of the lent memory, as many as the count returned, as the call left them"
-abbrev pub answerOf : Lent ℕ → List ℕ
-answerOf r = take (r .value) (r .memory)
 
 -- what is read where a call was not made
 abbrev pub nothingBack : Lent ℕ

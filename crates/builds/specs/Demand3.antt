@@ -16,11 +16,12 @@ use Rattle.builds.specs.Account.{Kept, nothing, nothingKept, told, setFo
 use Rattle.builds.specs.Account.{keptOf, keptNext, account}
 use Rattle.builds.specs.Beside.{Agree, beside, agree-at}
 use Rattle.builds.specs.Build.{Operand, own, earlier, Operation, settling, union, commonPart, difference, Call, Build}
-use Rattle.builds.specs.Build.{answerOf, nothingBack, handedIn, performed, comesBack, run}
+use Rattle.builds.specs.Build.{nothingBack, handedIn, performed, comesBack, run}
 use Rattle.builds.specs.InTurn.{turns-length, turns-append, turns-keep, standing, turn-at, turn-before}
 use Rattle.builds.specs.Refusals.{Refuses, what-comes-back-is-refused}
 use Rattle.constants.specs.Limits.{maxZoom}
 use Rattle.errors.specs.Answer.{Lent}
+use Rattle.errors.specs.Gives.{answerOf}
 use Rattle.ground.specs.Ground.{ground, Same, Settled}
 use Rattle.ground.specs.Theorems.{settled-list-settled, settled-is-least}
 use Rattle.ids.specs.Entry.{entryTile, isEntry}

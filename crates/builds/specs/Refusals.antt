@@ -17,9 +17,9 @@ use Rattle.area.specs.Settled.{settled-test}
 use Rattle.bits.specs.Tests.{and-parts, not-true, not-false, allOf, all-in}
 use Rattle.builds.specs.Account.{setOf, placesFor, refusalOf}
 use Rattle.builds.specs.Build.{Operand, Operation, settling, union, commonPart, difference, performed}
-use Rattle.builds.specs.Gives.{listed-gives, lent-gives}
 use Rattle.constants.specs.Limits.{maxZoom, maxEntries}
 use Rattle.errors.specs.Answer.{_when_, _else_, short}
+use Rattle.errors.specs.Gives.{lent-gives}
 use Rattle.errors.specs.Laws.{else-none}
 use Rattle.ground.specs.Ground.{Same, Settled}
 use Rattle.ground.specs.Theorems.{settled-list-settled}
@@ -27,6 +27,7 @@ use Rattle.ids.specs.Entry.{entryOf, entryTile, isEntry, entry-accepted, accept
 use Rattle.settled.specs.Settled.{isSettled}
 use Rattle.tile.specs.OnMap.{OnMap}
 use Rattle.tile.specs.declared.Tile.{Tile}
+use Rattle.tile_list.specs.Gives.{listed-gives}
 use Rattle.tile_list.specs.Laws.{valid-tile, map-tile}
 use Rattle.tile_list.specs.List.{listed, entriesInOrder, listRefusal, placesRefusal}
 use Rattle.tile_set.specs.Holds.{Valid}

@@ -10,9 +10,9 @@ use Prim.Native.Nat.{ℕ, _-_, _≤_}
 use lib.Dec.{ltb}
 use lib.ListN.{length}
 use Rattle.area.specs.Area.{tilesOf, groundOf}
-use Rattle.builds.specs.Build.{answerOf}
 use Rattle.children.specs.Children.{zOrder, gather, descendants}
 use Rattle.constants.specs.Limits.{maxZoom}
+use Rattle.errors.specs.Gives.{answerOf}
 use Rattle.ground.specs.Ground.{ground, Same, SettledFrom}
 use Rattle.ids.specs.Entry.{entryTile, entriesOf}
 use Rattle.merge.specs.Merge.{simplifyOf, simplifyV1Of}

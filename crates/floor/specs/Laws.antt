@@ -13,13 +13,13 @@ use Rattle.area.specs.Area.{tilesOf, groundOf, settledEntries}
 use Rattle.area.specs.Grounds.{tiles-again, listed-covers}
 use Rattle.bits.specs.Tests.{allOf, into-map}
 use Rattle.builds.specs.Build.{own, settling}
-use Rattle.builds.specs.Gives.{simplify-gives, accepted-items}
 use Rattle.builds.specs.Refusals.{TooLong, NoTiles, a-call-is-refused}
 use Rattle.children.specs.Children.{zOrder, gather, descendants}
 use Rattle.children.specs.Members.{in-gather, into-gather, once-gather, once-map}
 use Rattle.children.specs.Theorems.{z-order-is-a-family}
 use Rattle.children.specs.Under.{descend-under, under-descend, descend-once}
 use Rattle.constants.specs.Limits.{maxZoom}
+use Rattle.errors.specs.Gives.{accepted-items}
 use Rattle.errors.specs.Laws.{else-zero}
 use Rattle.floor.specs.Floor.{settledAt, AtFloor, inPlaceOf, cutDown, inListOrder}
 use Rattle.ground.specs.Floor.{CutTo, one-holder, settled-list-settled-from, settled-list-ground-from}
@@ -27,6 +27,7 @@ use Rattle.ground.specs.Floor.{simplified-list-from, settled-list-cut-to}
 use Rattle.ground.specs.Ground.{ground, Same, SettledFrom, settledListFrom, settledList}
 use Rattle.ground.specs.Members.{ordered-once, no-longer}
 use Rattle.ids.specs.Entry.{entryOf, entryTile, entriesOf, isEntry, entry-again, entry-tile-again}
+use Rattle.merge.specs.Gives.{simplify-gives}
 use Rattle.merge.specs.Merge.{simplifyOf}
 use Rattle.tile.specs.declared.Tile.{Tile}
 use Rattle.tile_list.specs.Laws.{named-by, names, map-tile, accepted-entries}

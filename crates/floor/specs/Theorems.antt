@@ -9,18 +9,20 @@ use lib.ListN.{length, length-map}
 use Rattle.area.specs.Area.{tilesOf, groundOf, settledEntries}
 use Rattle.area.specs.Grounds.{listed-covers}
 use Rattle.bits.specs.Tests.{in-map, into-map}
-use Rattle.builds.specs.Gives.{Gives, listed-gives, simplify-gives, accepted-items}
 use Rattle.builds.specs.Refusals.{NoTiles}
 use Rattle.constants.specs.Limits.{maxZoom, at-least-29}
+use Rattle.errors.specs.Gives.{Gives, accepted-items}
 use Rattle.floor.specs.Floor.{settledAt, AtFloor, cutDown, inListOrder, AboveTheFloor, LeftOut}
 use Rattle.floor.specs.Laws.{entry-of, accepted-exactly, all-entries, answer-is, count-is, answer-covers}
 use Rattle.floor.specs.Laws.{answer-settled, at-0, cut-ordered, cut-length}
 use Rattle.ground.specs.Floor.{list-covers, settled-list-settled-from, settled-list-same-from, settled-list-least-from}
 use Rattle.ground.specs.Ground.{ground, Same, settledListFrom}
 use Rattle.ids.specs.Entry.{entryOf, entryTile, entriesOf}
+use Rattle.merge.specs.Gives.{simplify-gives}
 use Rattle.merge.specs.Merge.{simplifyOf, simplifyV1Of}
 use Rattle.plate_table.specs.Kept.{tile, firstChild, both, one, both-here, both-accepted, v1-keeps-both, simplify-keeps-one}
 use Rattle.tile.specs.declared.Tile.{Tile}
+use Rattle.tile_list.specs.Gives.{listed-gives}
 use Rattle.tile_list.specs.Laws.{names}
 use Rattle.tile_list.specs.List.{listed, entriesInOrder, placesRefusal}
 use Rattle.tile_set.specs.Holds.{child-held, Valid}

@@ -5,9 +5,9 @@ use Prim.Native.Nat.{ℕ}
 use lib.Dec.{ltb, eqb}
 use lib.ListN.{length, replicate}
 use Rattle.area.specs.Area.{unionOf, commonOf, differenceOf}
-use Rattle.builds.specs.Build.{answerOf}
 use Rattle.constants.specs.Limits.{maxLine, formPlaces}
 use Rattle.errors.specs.Answer.{Answer, answer, Lent, written, _when_, _else_}
+use Rattle.errors.specs.Gives.{answerOf}
 use Rattle.form.specs.Form.{Form, tiles, pair, Reads, tooDeep}
 use Rattle.form.specs.Reading.{reading}
 use Rattle.form.specs.declared.Verb.{Verb}

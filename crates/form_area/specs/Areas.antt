@@ -9,7 +9,6 @@ use lib.ListN.{length, take, drop, getD, length-drop, length-append, length-map,
 use lib.Seq.{take-at, drop-at, drop-drop}
 use borrow.Author.Tests.{lt-ltb, le-ltb, eq-eqb}
 use Rattle.bits.specs.Tests.{allOf}
-use Rattle.builds.specs.Gives.{simplify-gives}
 use Rattle.constants.specs.Limits.{maxEntries, formPlaces}
 use Rattle.errors.specs.Answer.{Answer, answer, numberOf, _else_}
 use Rattle.errors.specs.Cases.{left}
@@ -27,6 +26,7 @@ use Rattle.form.specs.declared.Verb.{Verb}
 use Rattle.form_area.specs.Area.{isDash, keyOfRun, keysRefusal, keyEntry, runEntries, places, operated, given, formArea}
 use Rattle.form_area.specs.Calls.{valued, simplify-alike, call-valued, operated-gives, operated-alike}
 use Rattle.ids.specs.Entry.{isEntry, entry-accepted, entry-tile-again}
+use Rattle.merge.specs.Gives.{simplify-gives}
 use Rattle.merge.specs.Merge.{simplifyOf}
 use Rattle.quadkey.specs.Key.{keyRefusal}
 use Rattle.quadkey.specs.Theorems.{key-to-tile-to-key}

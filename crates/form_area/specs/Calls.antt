@@ -4,15 +4,16 @@ use mathlib.Core.List.{List, [], _++_}
 use Prim.Native.Nat.{ℕ, zero, suc, _≤_}
 use lib.ListN.{length, take}
 use Rattle.area.specs.Area.{pairRefusal, pairPlacesRefusal, unionEntries, commonEntries, differenceEntries}
-use Rattle.builds.specs.Build.{answerOf}
-use Rattle.builds.specs.Gives.{Gives, listed-gives, lent-gives, simplify-gives}
 use Rattle.errors.specs.Answer.{Answer, answer, Lent, short, _else_}
 use Rattle.errors.specs.Cases.{countCase, left}
+use Rattle.errors.specs.Gives.{answerOf, Gives, lent-gives}
 use Rattle.errors.specs.declared.Count.{Count}
 use Rattle.form.specs.declared.Verb.{Verb}
 use Rattle.form.specs.declared.Verb.the-variants.{Plus, Both, Minus}
 use Rattle.form_area.specs.Area.{operated, given}
+use Rattle.merge.specs.Gives.{simplify-gives}
 use Rattle.merge.specs.Merge.{simplifyOf}
+use Rattle.tile_list.specs.Gives.{listed-gives}
 use Rattle.tile_list.specs.List.{listed, entriesInOrder, placesRefusal}
 use Rattle.tile_set.specs.Set.{simplified}
 use Rattle.constants.specs.Limits.{maxZoom}

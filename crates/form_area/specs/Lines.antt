@@ -7,8 +7,8 @@ use native.Mathlib.Omega.{arith}
 use lib.Dec.{ltb}
 use lib.ListN.{length}
 use Rattle.constants.specs.Limits.{maxLine}
-use Rattle.builds.specs.Build.{answerOf}
 use Rattle.errors.specs.Answer.{Answer, answer, Lent, _when_, _else_}
+use Rattle.errors.specs.Gives.{answerOf}
 use Rattle.form.specs.Form.{Form, tiles, pair, Reads, tooDeep}
 use Rattle.form.specs.Reading.{reading, one-reading, isReading, wholeRefusal, lineRefusal}
 use Rattle.form_area.specs.Area.{keysRefusal, runEntries, places, operated, given, formArea, readArea, lineArea}

@@ -5,9 +5,10 @@ use Prim.Native.Nat.{ℕ, zero, suc, _+_, _<_}
 use native.Mathlib.Omega.{arith}
 use lib.ListN.{length, getD, length-append}
 use lib.Seq.{getD-append-seam}
-use Rattle.builds.specs.Build.{earlier, answerOf, nothingBack, answerAt, handedIn, performed, comesBack, run}
+use Rattle.builds.specs.Build.{earlier, nothingBack, answerAt, handedIn, performed, comesBack, run}
 use Rattle.builds.specs.InTurn.{inTurn, turns-length, turns-append, turns-keep}
 use Rattle.errors.specs.Answer.{answer, Lent, _else_}
+use Rattle.errors.specs.Gives.{answerOf}
 use Rattle.errors.specs.Laws.{else-zero}
 use Rattle.form.specs.Form.{Form, tiles, pair}
 use Rattle.form.specs.declared.Verb.{Verb}

@@ -6,8 +6,8 @@ use mathlib.Core.List.{List}
 use Prim.Native.Nat.{ℕ}
 use Rattle.area.specs.Area.{groundOf, settledEntries}
 use Rattle.area.specs.Grounds.{settled-ground, settled-same, simplify-entries}
-use Rattle.builds.specs.Gives.{simplify-gives, accepted-items}
 use Rattle.errors.specs.Answer.{_else_}
+use Rattle.errors.specs.Gives.{accepted-items}
 use Rattle.errors.specs.Laws.{else-zero}
 use Rattle.form.specs.Form.{Form, tiles, pair}
 use Rattle.form.specs.declared.Verb.{Verb}
@@ -15,6 +15,7 @@ use Rattle.form.specs.declared.Verb.the-variants.{Plus, Both, Minus}
 use Rattle.form_area.specs.Area.{keysRefusal, runEntries, places, operated, formArea}
 use Rattle.form_area.specs.Calls.{operatedEntries, operated-gives}
 use Rattle.form_builds.specs.Run.{given-zero}
+use Rattle.merge.specs.Gives.{simplify-gives}
 use Rattle.merge.specs.Merge.{simplifyOf}
 use Rattle.tile_list.specs.Laws.{accepted-entries}
 use Rattle.tile_list.specs.List.{listRefusal, placesRefusal}

@@ -13,9 +13,9 @@ use Rattle.area.specs.Grounds.{simplify-entries, listed-covers}
 use Rattle.area.specs.Pairs.{union-covers, common-covers, Shared, of-first, of-second, shared-when}
 use Rattle.area.specs.Settled.{settled-entries-settled}
 use Rattle.bits.specs.Tests.{allOf, into-map}
-use Rattle.builds.specs.Gives.{Gives, simplify-gives}
 use Rattle.constants.specs.Limits.{maxZoom, maxLine, formPlaces}
 use Rattle.errors.specs.Answer.{answer, Lent, short, _when_, _else_}
+use Rattle.errors.specs.Gives.{Gives}
 use Rattle.errors.specs.Laws.{else-zero}
 use Rattle.form.specs.Form.{Form, tiles, pair, Reads, tooDeep}
 use Rattle.form.specs.Reading.{reading}
@@ -27,6 +27,7 @@ use Rattle.ground.specs.Floor.{settled-list-least-from}
 use Rattle.ground.specs.Ground.{settledList}
 use Rattle.ground.specs.Largest.{Cover}
 use Rattle.ids.specs.Entry.{entryOf, entryTile, entryRefusal, isEntry}
+use Rattle.merge.specs.Gives.{simplify-gives}
 use Rattle.tile.specs.declared.Tile.{Tile}
 use Rattle.tile_list.specs.Laws.{accepted-entries, named-by}
 use Rattle.tile_list.specs.List.{listed, listRefusal, placesRefusal, entriesInOrder}

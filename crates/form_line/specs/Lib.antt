@@ -5,4 +5,3 @@ pub mod Stores
 pub mod Text
 pub mod Answered
 pub mod Longest
-pub mod Theorems

@@ -8,10 +8,9 @@ use lib.Dec.{ltb}
 use lib.ListN.{length}
 use Rattle.area.specs.Area.{pairRefusal, pairPlacesRefusal, unionEntries, commonEntries, differenceEntries}
 use Rattle.bits.specs.Tests.{allOf}
-use Rattle.builds.specs.Build.{answerOf}
-use Rattle.builds.specs.Gives.{Gives, simplify-gives}
 use Rattle.constants.specs.Limits.{maxZoom, maxEntries, maxLine, formPlaces}
 use Rattle.errors.specs.Answer.{answer, Lent, short, _when_, _else_}
+use Rattle.errors.specs.Gives.{answerOf, Gives}
 use Rattle.form.specs.Form.{Form, tiles, pair, Reads, tooDeep}
 use Rattle.form.specs.Reading.{reading}
 use Rattle.form.specs.declared.Verb.{Verb}
@@ -23,6 +22,7 @@ use Rattle.form_line.specs.Few.{Fits, line-fits}
 use Rattle.form_line.specs.Line.{answerText, printed}
 use Rattle.form_line.specs.Text.{refusal-length, list-length, keys-short, few-digits}
 use Rattle.ids.specs.Entry.{isEntry}
+use Rattle.merge.specs.Gives.{simplify-gives}
 use Rattle.quadkey.specs.Key.{allDigits, keyRefusal}
 use Rattle.settled.specs.Settled.{isSettled}
 use Rattle.tile_list.specs.List.{listed, listRefusal, placesRefusal, entriesInOrder}

@@ -1,3 +1,4 @@
 pub mod Merge
+pub mod Gives
 pub mod Laws
 pub mod Theorems

@@ -1,3 +1,4 @@
 pub mod List
+pub mod Gives
 pub mod Laws
 pub mod Finish

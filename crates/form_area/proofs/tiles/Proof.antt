@@ -5,13 +5,13 @@ use Prim.Native.Nat.{ℕ, _≤_}
 use native.Mathlib.Omega.{arith}
 use lib.ListN.{length, take, length-replicate}
 use lib.Seq.{length-take-le}
-use Rattle.builds.specs.Gives.{simplify-gives}
 use Rattle.constants.specs.Limits.{formPlaces, lines-in-entries}
 use Rattle.errors.specs.declared.Count.{Count}
 use Rattle.errors.specs.declared.Count.the-variants as count
 use Rattle.form_area.specs.Areas.{bad-key-area, settled-area, many-keys-area, keys-fit}
 use Rattle.form_area.specs.Calls.{call-within}
 use Rattle.form_area.specs.Promised.{AllEntered}
+use Rattle.merge.specs.Gives.{simplify-gives}
 use Rattle.merge.specs.Merge.{simplifyOf}
 use borrow.Author.Needs.{needs}
 use Rattle.form_area.proofs.tiles.Statement.{statement}
