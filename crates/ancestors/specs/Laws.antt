@@ -11,10 +11,10 @@ use Rattle.constants.specs.Limits.{maxZoom}
 use Rattle.quadtree.specs.Laws.{quad-ancestor, quad-inj}
 use Rattle.quadtree.specs.Lists.{TileNumbers}
 use Rattle.quadtree.specs.Numbers.{OfMap, quadOf, placeOf, placeTile}
-use Rattle.settle.specs.Places.{holds-quad}
+use Rattle.quadtree.specs.Places.{holds-quad, valid-tile, map-tile}
 use Rattle.settle.specs.Settle.{Settles}
 use Rattle.tile.specs.declared.Tile.{Tile}
-use Rattle.tile_list.specs.Laws.{named-within, valid-tile, map-tile}
+use Rattle.tile_list.specs.Laws.{named-within}
 use Rattle.tile_list.specs.List.{named}
 use Rattle.tile_set.specs.Holds.{Holds, holds-trans, holds-both, ancestor-holds, holder-is-ancestor, valid-holder}
 use Rattle.tile_set.specs.Merged.{Within, Apart}

@@ -8,8 +8,7 @@ use native.Mathlib.Omega.{arith}
 use lib.ListN.{length, take}
 use Rattle.quadtree.specs.Lists.{TileNumbers}
 use Rattle.quadtree.specs.Numbers.{quadOf, quadTile, placeOf, placeTile}
-use Rattle.settle.specs.Places.{endOf}
-use Rattle.settle.specs.Settle.{tiles}
+use Rattle.quadtree.specs.Places.{endOf, tiles}
 use Rattle.sort.specs.Sort.{Rising}
 use Rattle.tile.specs.declared.Tile.{Tile}
 use Rattle.tile_list.specs.List.{named}

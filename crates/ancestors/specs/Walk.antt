@@ -11,10 +11,9 @@ use Rattle.bits.specs.Tests.{getD-in}
 use Rattle.quadtree.specs.Laws.{quad-tile}
 use Rattle.quadtree.specs.Lists.{TileNumbers}
 use Rattle.quadtree.specs.Numbers.{OfMap, quadOf, quadTile, placeOf, placeTile}
-use Rattle.settle.specs.Lists.{in-at, taken-at, at-taken, by-at, rising-at}
+use Rattle.sort.specs.At.{in-at, taken-at, at-taken, by-at, rising-at}
 use Rattle.settle.specs.Middle.{place-at}
-use Rattle.settle.specs.Places.{endOf, low-pos, low-below, Lie, holding, held, before, after, lies, held-run, IsPlace}
-use Rattle.settle.specs.Settle.{tiles}
+use Rattle.quadtree.specs.Places.{endOf, low-pos, low-below, Lie, holding, held, before, after, lies, held-run, IsPlace, tiles}
 use Rattle.sort.specs.Sort.{By}
 use Rattle.tile.specs.declared.Tile.{Tile}
 use Rattle.tile_list.specs.Laws.{named-by, names}

@@ -5,7 +5,7 @@ ghost use lib.ListN.{length};
 ghost use Rattle.constants.specs.Limits.{maxZoom};
 ghost use Rattle.quadtree.specs.Lists.{TileNumbers};
 ghost use Rattle.quadtree.specs.Numbers.{placeOf, placeTile};
-ghost use Rattle.settle.specs.Places.{IsPlace, endOf};
+ghost use Rattle.quadtree.specs.Places.{IsPlace, endOf};
 ghost use Rattle.sort.specs.Sort.{By};
 ghost use Rattle.tile_list.specs.Finish.{Listed};
 ghost use Rattle.tile_list.specs.List.{named};
@@ -81,7 +81,7 @@ fn end(k: u64) -> u64
     requires { ⌜ IsPlace k ⌝ }
     ensures { λ r. ⌜ r ≡ endOf (placeTile k) ⌝ }
 {
-    k + settle::low_bit(k)
+    k + quadtree::low_bit(k)
 }
 
 // The quad of the ancestor at `steps`, as `parent` counts them: 0 is the parent.

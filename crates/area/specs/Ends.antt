@@ -30,7 +30,7 @@ use Rattle.ground.specs.Largest.{Full, Cover}
 use Rattle.ids.specs.Entry.{isEntry}
 use Rattle.quadtree.specs.Lists.{entryKey, TileNumbers}
 use Rattle.quadtree.specs.Numbers.{placeOf, placeTile}
-use Rattle.settle.specs.Settle.{tiles}
+use Rattle.quadtree.specs.Places.{tiles}
 use Rattle.settled.specs.Laws.{places-named}
 use Rattle.settled.specs.Settled.{isSettled}
 use Rattle.sort.specs.Laws.{sort-length}

@@ -15,7 +15,8 @@ use Rattle.ground.specs.Theorems.{settled-list-settled, settled-list-ground, on
 use Rattle.ids.specs.Entry.{entryTile, entriesOf, isEntry, entry-again, entry-tile-again}
 use Rattle.tile.specs.OnMap.{tileAt}
 use Rattle.tile.specs.declared.Tile.{Tile}
-use Rattle.tile_list.specs.Laws.{named-by, names, listed-within, map-tile}
+use Rattle.tile_list.specs.Laws.{named-by, names, listed-within}
+use Rattle.quadtree.specs.Places.{map-tile}
 use Rattle.tile_list.specs.List.{listed, entriesInOrder}
 use Rattle.tile_set.specs.Holds.{Holds, Valid}
 use Rattle.tile_set.specs.Merged.{is-false}

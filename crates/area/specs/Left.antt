@@ -17,7 +17,8 @@ use Rattle.quadtree.specs.Laws.{place-tile}
 use Rattle.quadtree.specs.Numbers.{placeOf, placeTile}
 use Rattle.tile.specs.OnMap.{tileAt}
 use Rattle.tile.specs.declared.Tile.{Tile}
-use Rattle.tile_list.specs.Laws.{named-by, names, map-tile}
+use Rattle.tile_list.specs.Laws.{named-by, names}
+use Rattle.quadtree.specs.Places.{map-tile}
 use Rattle.tile_list.specs.List.{named}
 use Rattle.tile_set.specs.Holds.{Holds, holds-trans, Valid}
 use Rattle.tile_set.specs.Merged.{is-false}

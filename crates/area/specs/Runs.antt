@@ -22,10 +22,9 @@ use Rattle.ground.specs.Members.{no-longer}
 use Rattle.quadtree.specs.Lists.{rankEntry, TileNumbers}
 use Rattle.quadtree.specs.Laws.{rank-inj}
 use Rattle.quadtree.specs.Numbers.{placeOf, placeTile, rankOf}
-use Rattle.settle.specs.Lists.{in-at, rising-by-at}
-use Rattle.settle.specs.Places.{low-pos, IsPlace}
-use Rattle.settle.specs.Settle.{tiles, Settles}
-use Rattle.settled.specs.Runs.{Runs}
+use Rattle.sort.specs.At.{in-at, rising-by-at}
+use Rattle.quadtree.specs.Places.{low-pos, IsPlace, tiles, Runs}
+use Rattle.settle.specs.Settle.{Settles}
 use Rattle.sort.specs.Laws.{sort-length, in-sort, sorted-by, in-once, once-length, rising-sorted}
 use Rattle.sort.specs.Sort.{sortN, onceOf, Rising, By}
 use Rattle.tile_list.specs.Finish.{keys-finished}

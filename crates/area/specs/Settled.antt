@@ -19,7 +19,8 @@ use Rattle.settled.specs.Order.{is-before, before-is}
 use Rattle.settled.specs.Settled.{isBefore, strictlyInOrder, isSettled}
 use Rattle.tile.specs.Order.{Before}
 use Rattle.tile.specs.declared.Tile.{Tile}
-use Rattle.tile_list.specs.Laws.{named-by, names, listed-within, map-tile}
+use Rattle.tile_list.specs.Laws.{named-by, names, listed-within}
+use Rattle.quadtree.specs.Places.{map-tile}
 use Rattle.tile_list.specs.List.{listed}
 use Rattle.tile_set.specs.InOrder.{Ordered}
 use Rattle.tile_set.specs.Merged.{Apart, is-false, whole-all}

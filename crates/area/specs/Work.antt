@@ -19,7 +19,7 @@ use Rattle.errors.specs.declared.Check.the-variants.{Fine}
 use Rattle.ids.specs.Entry.{isEntry}
 use Rattle.quadtree.specs.Lists.{entryKey, TileNumbers}
 use Rattle.quadtree.specs.Numbers.{placeOf, placeTile}
-use Rattle.settled.specs.Runs.{Runs}
+use Rattle.quadtree.specs.Places.{Runs}
 use Rattle.settled.specs.Settled.{isSettled}
 use Rattle.sort.specs.Sort.{sortN}
 use Rattle.tile.specs.declared.Tile.{Tile}

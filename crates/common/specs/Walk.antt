@@ -9,10 +9,8 @@ use lib.ListN.{length, take, getD, set}
 use lib.Seq.{getD-set-same, getD-set-other}
 use Rattle.bits.specs.Tests.{and-parts, getD-in}
 use Rattle.quadtree.specs.Numbers.{placeTile}
-use Rattle.settle.specs.Lists.{in-at, taken-at, at-taken}
-use Rattle.settle.specs.Places.{lowOf, startOf, endOf, low-pos, low-below, Lie, holding, held, before, after, lies, held-run, IsPlace}
-use Rattle.settle.specs.Settle.{tiles}
-use Rattle.settled.specs.Runs.{Runs}
+use Rattle.sort.specs.At.{in-at, taken-at, at-taken}
+use Rattle.quadtree.specs.Places.{lowOf, startOf, endOf, low-pos, low-below, Lie, holding, held, before, after, lies, held-run, IsPlace, tiles, Runs}
 use Rattle.sort.specs.Laws.{eq-or-ne, le-or-lt}
 use Rattle.tile.specs.declared.Tile.{Tile}
 use Rattle.tile_list.specs.Laws.{named-by, names}

@@ -1,7 +1,7 @@
 // The common part of two settled sets, by the places of their tiles along the quadtree.
 ghost use Prim.Native.Nat.{_+_, _≤_};
 ghost use lib.ListN.{length};
-ghost use Rattle.settled.specs.Runs.{Runs};
+ghost use Rattle.quadtree.specs.Places.{Runs};
 ghost use Rattle.common.specs.Common.{Common};
 
 // The tiles of either list that lie in a tile of the other, by their places. The answer says how many they are.
@@ -15,8 +15,8 @@ pub fn common(a: &[u64], b: &[u64], out: &mut [u64]) -> usize
     while i < a.len() && j < b.len() {
         let p = a[i];
         let q = b[j];
-        let l = settle::low_bit(p);
-        let m = settle::low_bit(q);
+        let l = quadtree::low_bit(p);
+        let m = quadtree::low_bit(q);
         if p + l <= q - m {
             i += 1;
         } else if q + m <= p - l {

@@ -9,9 +9,7 @@ use lib.ListN.{length, getD, length-append, length-map}
 use Rattle.bits.specs.Tests.{anyOf}
 use Rattle.constants.specs.Limits.{maxZoom}
 use Rattle.quadtree.specs.Numbers.{OfMap, placeTile}
-use Rattle.settle.specs.Places.{held-run, low-pos}
-use Rattle.settle.specs.Settle.{tiles}
-use Rattle.settled.specs.Runs.{Runs}
+use Rattle.quadtree.specs.Places.{held-run, low-pos, tiles, Runs}
 use Rattle.tile.specs.declared.Tile.{Tile}
 use Rattle.tile_set.specs.Holds.{holds-both, holds-level, holds-trans, child-held}
 use Rattle.tile_set.specs.Set.{child}

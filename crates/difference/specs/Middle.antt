@@ -8,9 +8,7 @@ use lib.ListN.{length, take, getD}
 use lib.Seq.{sets, take-all, take-suc}
 use Rattle.constants.specs.Limits.{maxZoom}
 use Rattle.quadtree.specs.Numbers.{placeOf, placeTile}
-use Rattle.settle.specs.Places.{lowOf, startOf}
-use Rattle.settle.specs.Settle.{tiles}
-use Rattle.settled.specs.Runs.{Runs}
+use Rattle.quadtree.specs.Places.{lowOf, startOf, tiles, Runs}
 use Rattle.tile.specs.declared.Tile.{Tile}
 use Rattle.difference.specs.Left.{leftOf, leftOfAll, leftAt, without}
 use Rattle.difference.specs.Walk.{Come, Wrote, Walked, behind-none, come-on, wrote-none, wrote-both}

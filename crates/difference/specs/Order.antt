@@ -9,11 +9,8 @@ use Rattle.bits.specs.Tests.{anyOf}
 use Rattle.constants.specs.Limits.{maxZoom}
 use Rattle.quadtree.specs.Laws.{place-tile}
 use Rattle.quadtree.specs.Numbers.{OfMap, placeOf, placeTile}
-use Rattle.settle.specs.Places.{lowOf, startOf, endOf, low-below, low-child, place-child, end-small, IsPlace, tile-place}
-use Rattle.settle.specs.Settle.{tiles}
-use Rattle.settled.specs.Runs.{Runs}
+use Rattle.quadtree.specs.Places.{lowOf, startOf, endOf, low-below, low-child, place-child, end-small, IsPlace, tile-place, tiles, Runs, valid-tile, map-tile}
 use Rattle.tile.specs.declared.Tile.{Tile}
-use Rattle.tile_list.specs.Laws.{valid-tile, map-tile}
 use Rattle.tile_set.specs.Holds.{valid-child}
 use Rattle.tile_set.specs.Set.{child}
 use Rattle.difference.specs.Left.{holds, ofFour, leftOf, leftOfAll, without}

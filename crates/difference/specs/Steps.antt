@@ -11,10 +11,8 @@ use lib.ListN.{length, set}
 use Rattle.constants.specs.Limits.{maxZoom}
 use Rattle.quadtree.specs.Laws.{place-tile}
 use Rattle.quadtree.specs.Numbers.{OfMap, placeOf, placeTile}
-use Rattle.settle.specs.Places.{lowOf, startOf, endOf, low-child, place-child, tile-place, Room, room}
-use Rattle.settle.specs.Settle.{tiles}
+use Rattle.quadtree.specs.Places.{lowOf, startOf, endOf, low-child, place-child, tile-place, Room, room, tiles, valid-tile, map-tile}
 use Rattle.tile.specs.declared.Tile.{Tile}
-use Rattle.tile_list.specs.Laws.{valid-tile, map-tile}
 use Rattle.tile_set.specs.Holds.{valid-child}
 use Rattle.tile_set.specs.Set.{child}
 use Rattle.difference.specs.Left.{ofFour, leftOf, leftAt, fourAt}

@@ -10,10 +10,8 @@ use Rattle.bits.specs.Tests.{in-map, into-map, getD-in}
 use Rattle.constants.specs.Limits.{maxZoom}
 use Rattle.quadtree.specs.Laws.{place-tile}
 use Rattle.quadtree.specs.Numbers.{OfMap, placeOf, placeTile}
-use Rattle.settle.specs.Lists.{in-at}
-use Rattle.settle.specs.Places.{lowOf, startOf, endOf, low-pos, low-below, held-run, lies, Lie, holding, held, before, after}
-use Rattle.settle.specs.Settle.{tiles}
-use Rattle.settled.specs.Runs.{Runs}
+use Rattle.sort.specs.At.{in-at}
+use Rattle.quadtree.specs.Places.{lowOf, startOf, endOf, low-pos, low-below, held-run, lies, Lie, holding, held, before, after, tiles, Runs}
 use Rattle.tile.specs.declared.Tile.{Tile}
 use Rattle.tile_set.specs.Holds.{Holds, holds-refl, holds-trans, holds-level}
 use Rattle.difference.specs.Left.{ofFour, leftOf}

@@ -10,9 +10,7 @@ use lib.ListN.{length, drop, set, length-append, length-map}
 use lib.Seq.{sets, sets-eq, length-sets}
 use Rattle.constants.specs.Limits.{maxZoom}
 use Rattle.quadtree.specs.Numbers.{placeOf, placeTile}
-use Rattle.settle.specs.Places.{lowOf, startOf, endOf, IsPlace}
-use Rattle.settle.specs.Settle.{tiles}
-use Rattle.settled.specs.Runs.{Runs}
+use Rattle.quadtree.specs.Places.{lowOf, startOf, endOf, IsPlace, tiles, Runs}
 use Rattle.tile.specs.declared.Tile.{Tile}
 
 -- the tiles before `next` of those that are taken away end at the number `to` or before it

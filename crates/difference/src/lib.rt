@@ -5,9 +5,7 @@ ghost use Prim.Native.Nat.{_+_, _*_, _^_, _≤_, _<_};
 ghost use lib.ListN.{length, set};
 ghost use lib.Seq.{sets};
 ghost use Rattle.quadtree.specs.Numbers.{placeOf};
-ghost use Rattle.settle.specs.Places.{endOf};
-ghost use Rattle.settle.specs.Settle.{tiles};
-ghost use Rattle.settled.specs.Runs.{Runs};
+ghost use Rattle.quadtree.specs.Places.{endOf, tiles, Runs};
 ghost use Rattle.difference.specs.Left.{leftAt, fourAt, without};
 ghost use Rattle.difference.specs.Walk.{Behind, AtTile, AtFour, Clear, Walked};
 
@@ -27,7 +25,7 @@ pub fn left(kept: &[u64], gone: &[u64], out: &mut [u64]) -> usize
     let mut i = 0;
     while i < kept.len() {
         let k = kept[i];
-        at = tile(k, settle::low_bit(k), gone, out, at);
+        at = tile(k, quadtree::low_bit(k), gone, out, at);
         i += 1;
     }
     at.count
@@ -47,7 +45,7 @@ fn tile(k: u64, low: u64, gone: &[u64], out: &mut [u64], at: Mark) -> Mark
         return keep(k, out, here);
     }
     let g = gone[next];
-    if low <= settle::low_bit(g) {
+    if low <= quadtree::low_bit(g) {
         return here;
     }
     four(k, low / 4, gone, out, here)
@@ -82,7 +80,7 @@ fn clear(gone: &[u64], next: usize, end: u64) -> bool
         return true;
     }
     let g = gone[next];
-    if g - settle::low_bit(g) < end {
+    if g - quadtree::low_bit(g) < end {
         return false;
     }
     true
@@ -97,7 +95,7 @@ fn passed(gone: &[u64], from: usize, start: u64) -> usize
     let mut next = from;
     while next < gone.len() {
         let g = gone[next];
-        if start < g + settle::low_bit(g) {
+        if start < g + quadtree::low_bit(g) {
             return next;
         }
         next += 1;

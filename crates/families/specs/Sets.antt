@@ -15,7 +15,8 @@ use Rattle.quadtree.specs.Laws.{quad-child, quad-deeper, quad-shallower, quad-t
 use Rattle.sort.specs.Sort.{Rising}
 use Rattle.tile.specs.declared.Tile.{Tile}
 use Rattle.tile_list.specs.List.{named}
-use Rattle.tile_list.specs.Laws.{named-by, names, valid-tile, map-tile}
+use Rattle.tile_list.specs.Laws.{named-by, names}
+use Rattle.quadtree.specs.Places.{valid-tile, map-tile}
 use Rattle.tile_set.specs.Holds.{valid-parent, valid-child, parent-of-child}
 use Rattle.tile_set.specs.Merged.{whole-all, joins-when, joined-when, merged-cases, merged-kept, merged-joined, joined-joins, joins-joined, is-false, bool-ext}
 use Rattle.tile_set.specs.Set.{parentTile, child, joins, joined, merged}

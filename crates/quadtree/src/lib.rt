@@ -8,6 +8,7 @@ ghost use Prim.Native.Nat.{_<_};
 ghost use lib.ListN.{length};
 ghost use Rattle.quadtree.specs.Digits.{apart};
 ghost use Rattle.quadtree.specs.Lists.{sortKey, keyRank, rankEntry, TileNumber, TileNumbers, Keyed};
+ghost use Rattle.quadtree.specs.Places.{IsPlace, lowOf};
 ghost use Rattle.quadtree.specs.Numbers.{OfMap, quadOf, placeOf, rankOf, zoomIn, evenBits, quadTile, placeTile};
 
 // The bits of n with a 0 between each two: its halves move apart, then their halves. A table would be copied to the stack at each call.
@@ -139,4 +140,12 @@ pub fn entries(ranks: &mut [u64])
         ranks[i] = entry_of_rank(ranks[i]);
         i += 1;
     }
+}
+
+// Half the length of the tile's run, which its place is in the middle of.
+pub fn low_bit(k: u64) -> u64
+    requires { ⌜ IsPlace k ⌝ }
+    ensures { λ r. ⌜ r ≡ lowOf (placeTile k) ⌝ }
+{
+    1 << u64::trailing_zeros(k)
 }

@@ -19,9 +19,9 @@ use Rattle.tile_list.specs.Laws.{named-by, names}
 use Rattle.tile_set.specs.Holds.{Holds, holds-refl, holds-trans}
 use Rattle.tile_set.specs.Merged.{whole-all}
 use Rattle.tile_set.specs.Simplified.{listed}
-use Rattle.settle.specs.Lists.{in-at, taken-at, at-taken, taken-rising, by-at}
-use Rattle.settle.specs.Places.{lowOf, startOf, endOf, low-pos, low-below, held-run, place-held, parent-of-map, IsPlace, tile-place}
-use Rattle.settle.specs.Settle.{Settles, tiles, Popped, Family, Joins, stop, join}
+use Rattle.sort.specs.At.{in-at, taken-at, at-taken, taken-rising, by-at}
+use Rattle.quadtree.specs.Places.{lowOf, startOf, endOf, low-pos, low-below, held-run, place-held, parent-of-map, IsPlace, tile-place, tiles}
+use Rattle.settle.specs.Settle.{Settles, Popped, Family, Joins, stop, join}
 use Rattle.settle.specs.Stack.{Among, Under, Stack, Onto, stack-none, rise-apart, pop-under, pop-top, join-holds, join-under, join-end, join-top, push, push-under}
 
 pub joins-less : {m c j n k : ℕ} {l : List ℕ} → Joins m l c j n k → c ≤ n

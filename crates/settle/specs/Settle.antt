@@ -10,7 +10,7 @@ use Rattle.tile.specs.declared.Tile.{Tile}
 use Rattle.tile_list.specs.List.{named}
 use Rattle.tile_set.specs.Set.{child}
 use Rattle.tile_set.specs.Simplified.{Simplest}
-use Rattle.settle.specs.Places.{IsPlace}
+use Rattle.quadtree.specs.Places.{IsPlace, tiles}
 
 -- the first r numbers of `after` are the places, in order, of what `before` comes to at minimum zoom m
 pub record Settles (m : ℕ) (before after : List ℕ) (r : ℕ) : Type 0 where
@@ -24,10 +24,6 @@ pub record Stand (l : List ℕ) (count k : ℕ) : Type 0 where
   pub within : count ≤ length l
   pub each : (i : ℕ) → i < count → IsPlace (getD l i 0)
   pub top : IsPlace k
-
--- the tile of the i-th number
-abbrev pub tiles : List ℕ → ℕ → Tile
-tiles l i = placeTile (getD l i 0)
 
 -- of `count` numbers those above `start` at the end are taken off, and r are left
 pub record Popped (l : List ℕ) (start count r : ℕ) : Type 0 where

@@ -10,11 +10,10 @@ use Rattle.constants.specs.Limits.{maxZoom}
 use Rattle.quadtree.specs.Numbers.{quadOf, placeOf, placeTile}
 use Rattle.quadtree.specs.Laws.{place-tile}
 use Rattle.tile.specs.declared.Tile.{Tile}
-use Rattle.tile_list.specs.Laws.{valid-tile, map-tile}
+use Rattle.quadtree.specs.Places.{valid-tile, map-tile, lowOf, first-place, second-place, third-place, parent-place, fourth-child, child-fourth, fourth-far, parent-of-map, tile-place, tiles}
 use Rattle.tile_set.specs.Holds.{valid-parent, valid-child}
 use Rattle.tile_set.specs.Set.{child, parentTile}
-use Rattle.settle.specs.Places.{lowOf, first-place, second-place, third-place, parent-place, fourth-child, child-fourth, fourth-far, parent-of-map, tile-place}
-use Rattle.settle.specs.Settle.{Stand, tiles, Family}
+use Rattle.settle.specs.Settle.{Stand, Family}
 
 -- k, whose lowest set bit is w, and the three numbers below it
 pub record Siblings (m : ℕ) (l : List ℕ) (count k w : ℕ) : Type 0 where

@@ -12,7 +12,7 @@ use Rattle.tile.specs.declared.Tile.{Tile}
 use Rattle.tile_set.specs.Holds.{Holds, holds-trans, child-held}
 use Rattle.tile_set.specs.Set.{child}
 use Rattle.tile_set.specs.Simplified.{Built, joined}
-use Rattle.settle.specs.Places.{startOf, endOf, low-pos, low-below, Lie, holding, held, before, after, lies, held-run, place-held, low-child, place-child, parent-of-map}
+use Rattle.quadtree.specs.Places.{startOf, endOf, low-pos, low-below, Lie, holding, held, before, after, lies, held-run, place-held, low-child, place-child, parent-of-map}
 use Rattle.settle.specs.Settle.{Family}
 
 -- x is one of the first n tiles

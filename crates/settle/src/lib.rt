@@ -13,8 +13,8 @@ ghost use Rattle.tile.specs.declared.Tile.{Tile};
 ghost use Rattle.tile_list.specs.Finish.{Listed};
 ghost use Rattle.tile_list.specs.List.{named};
 ghost use Rattle.tile_set.specs.Set.{simplified};
-ghost use Rattle.settle.specs.Places.{IsPlace, lowOf};
-ghost use Rattle.settle.specs.Settle.{Settles, Stand, tiles, Popped, Family, Joins};
+ghost use Rattle.quadtree.specs.Places.{IsPlace, tiles};
+ghost use Rattle.settle.specs.Settle.{Settles, Stand, Popped, Family, Joins};
 
 // `simplify`, from the places of a set's tiles to the settled set as a list.
 pub fn simplified(places: &mut [u64], out: &mut [u64], m: u8) -> usize
@@ -37,7 +37,7 @@ pub fn settle(places: &mut [u64], m: u8) -> usize
     while i < places.len() {
         let k = places[i];
         if end <= k {
-            let low = low_bit(k);
+            let low = quadtree::low_bit(k);
             let kept = popped(places, count, k - low);
             let top = joined(places, kept, k, m);
             let at = top.count;
@@ -54,14 +54,6 @@ pub fn settle(places: &mut [u64], m: u8) -> usize
 struct Top {
     count: usize,
     place: u64,
-}
-
-// Half the length of the tile's run, which its place is in the middle of.
-pub fn low_bit(k: u64) -> u64
-    requires { ⌜ IsPlace k ⌝ }
-    ensures { λ r. ⌜ r ≡ lowOf (placeTile k) ⌝ }
-{
-    1 << u64::trailing_zeros(k)
 }
 
 pub fn zoom(k: u64) -> u8
@@ -101,7 +93,7 @@ fn joined(places: &[u64], count: usize, k: u64, m: u8) -> Top
     let mut left = count;
     let mut top = k;
     while family(places, left, top, m) {
-        top -= 3 * low_bit(top);
+        top -= 3 * quadtree::low_bit(top);
         left -= 3;
     }
     Top {
@@ -124,7 +116,7 @@ pub fn family(places: &[u64], count: usize, k: u64, m: u8) -> bool
     if quad(k) % 4 != 3 {
         return false;
     }
-    let step = 2 * low_bit(k);
+    let step = 2 * quadtree::low_bit(k);
     if places[count - 1] != k - step {
         return false;
     }

@@ -10,7 +10,7 @@ use Rattle.sort.specs.Sort.{sortN}
 use Rattle.tile.specs.declared.Tile.{Tile}
 use Rattle.tile_list.specs.List.{named, listRefusal}
 use Rattle.tile_set.specs.Set.{whole}
-use Rattle.settled.specs.Runs.{Runs}
+use Rattle.quadtree.specs.Places.{Runs}
 use Rattle.settled.specs.Settled.{isSettled}
 
 -- r says whether the tiles of the places l, in their order, lie apart with no four siblings among them

@@ -15,10 +15,9 @@ use Rattle.errors.specs.declared.Refusal.the-variants.{TooMany, NoTile}
 use Rattle.ids.specs.Entry.{entryTile, isEntry}
 use Rattle.quadtree.specs.Lists.{entryKey, TileNumbers, keys-of-tiles}
 use Rattle.quadtree.specs.Numbers.{placeOf, placeTile}
-use Rattle.settle.specs.Lists.{rising-at}
+use Rattle.sort.specs.At.{rising-at}
 use Rattle.settle.specs.Middle.{place-at}
-use Rattle.settle.specs.Places.{startOf, endOf, low-pos, Lie, holding, held, before, after, lies, IsPlace}
-use Rattle.settle.specs.Settle.{tiles}
+use Rattle.quadtree.specs.Places.{startOf, endOf, low-pos, Lie, holding, held, before, after, lies, IsPlace, tiles, Runs}
 use Rattle.settle.specs.Stack.{rise-apart}
 use Rattle.sort.specs.Sort.{sortN, Rising}
 use Rattle.tile.specs.declared.Tile.{Tile}
@@ -30,7 +29,6 @@ use Rattle.tile_set.specs.Set.{ancestor, child, whole}
 use Rattle.tile_set.specs.Uncovered.{any-below-of, any-below-in}
 use Rattle.settled.specs.Answers.{Lone, Tested, isSettledOf}
 use Rattle.settled.specs.Order.{places-rise}
-use Rattle.settled.specs.Runs.{Runs}
 use Rattle.settled.specs.Settled.{strictlyInOrder, besideAncestor, withSiblings, isSettled}
 use Rattle.settled.specs.Walk.{named-among, at-named}
 

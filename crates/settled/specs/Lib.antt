@@ -1,5 +1,4 @@
 pub mod Settled
-pub mod Runs
 pub mod Answers
 pub mod Order
 pub mod Walk

@@ -11,7 +11,7 @@ use Rattle.ids.specs.Entry.{entryTile, isEntry}
 use Rattle.quadtree.specs.Laws.{rank-small, rank-before, before-rank, place-inj}
 use Rattle.quadtree.specs.Lists.{entryKey}
 use Rattle.quadtree.specs.Numbers.{OfMap, rankOf}
-use Rattle.settle.specs.Lists.{in-at}
+use Rattle.sort.specs.At.{in-at}
 use Rattle.sort.specs.Laws.{sort-in, insert-rising}
 use Rattle.sort.specs.Sort.{sortN, Rising}
 use Rattle.tile.specs.Order.{Before, tileOrder, less-if-before, before-if-less}

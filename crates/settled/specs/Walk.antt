@@ -9,10 +9,10 @@ use lib.ListN.{length, getD}
 use Rattle.bits.specs.Tests.{getD-in}
 use Rattle.quadtree.specs.Lists.{TileNumbers}
 use Rattle.quadtree.specs.Numbers.{placeOf, placeTile}
-use Rattle.settle.specs.Lists.{in-at}
+use Rattle.sort.specs.At.{in-at}
 use Rattle.settle.specs.Middle.{place-at}
-use Rattle.settle.specs.Places.{lowOf, startOf, endOf, IsPlace}
-use Rattle.settle.specs.Settle.{Stand, tiles, Family}
+use Rattle.quadtree.specs.Places.{lowOf, startOf, endOf, IsPlace, tiles, Runs}
+use Rattle.settle.specs.Settle.{Stand, Family}
 use Rattle.settle.specs.Stack.{Among, together}
 use Rattle.tile.specs.declared.Tile.{Tile}
 use Rattle.tile_list.specs.Laws.{named-by, names}
@@ -20,7 +20,6 @@ use Rattle.tile_list.specs.List.{named}
 use Rattle.tile_set.specs.Merged.{whole-all, is-false}
 use Rattle.tile_set.specs.Set.{whole}
 use Rattle.settled.specs.Answers.{Lone}
-use Rattle.settled.specs.Runs.{Runs}
 
 -- a tile that places name stands at one of them
 pub named-among : (l : List ℕ) (t : Tile) → named placeTile l t ≡ true → Among (tiles l) (length l) t

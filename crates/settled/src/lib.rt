@@ -61,7 +61,7 @@ pub fn apart(places: &[u64]) -> bool
     let mut i = 0;
     while i < places.len() {
         let k = places[i];
-        let low = settle::low_bit(k);
+        let low = quadtree::low_bit(k);
         if k - low < end {
             return false;
         }

@@ -18,7 +18,8 @@ use Rattle.tile.specs.Order.{Before}
 use Rattle.tile.specs.declared.Tile.{Tile}
 use Rattle.tile_set.specs.Holds.{Valid}
 use Rattle.tile_set.specs.InOrder.{Ordered, in-order-is}
-use Rattle.tile_list.specs.Laws.{named-by, names, map-tile, named-within}
+use Rattle.tile_list.specs.Laws.{named-by, names, named-within}
+use Rattle.quadtree.specs.Places.{map-tile}
 use Rattle.tile_list.specs.List.{named, entriesInOrder, filled}
 
 -- tiles, by their ranks, as a list

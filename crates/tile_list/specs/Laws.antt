@@ -13,11 +13,11 @@ use Rattle.errors.specs.Answer.{_when_, _else_}
 use Rattle.ids.specs.Entry.{entryTile, isEntry, accepted-entry}
 use Rattle.quadtree.specs.Lists.{sortKey, sortTile, entryKey, key-tile, TileNumbers}
 use Rattle.quadtree.specs.Numbers.{OfMap}
+use Rattle.quadtree.specs.Places.{valid-tile}
 use Rattle.sort.specs.Laws.{in-sort, sort-in, in-once, once-in}
 use Rattle.sort.specs.Sort.{sortN, onceOf}
 use Rattle.tile.specs.Order.{tile-ext}
 use Rattle.tile.specs.declared.Tile.{Tile}
-use Rattle.tile_set.specs.Holds.{Valid}
 use Rattle.tile_set.specs.Merged.{Within, bool-ext}
 use Rattle.tile_list.specs.List.{same, named, listed, listRefusal}
 
@@ -38,12 +38,6 @@ named-by tile list t e = let s = any-in (λ n. same (tile n) t) list e in (s .0,
 pub names : (tile : ℕ → Tile) (list : List ℕ) (n : ℕ) (t : Tile) → List·Memᴰ n list → tile n ≡ t → named tile list t ≡ true
 unfolding named
 names tile list n t m e = in-any (λ n. same (tile n) t) list m (tile-same (tile n) t e)
-
-pub valid-tile : (t : Tile) → OfMap t → Valid maxZoom t
-valid-tile t m = record { zoom = m .zoom; column = m .column; row = m .row }
-
-pub map-tile : (t : Tile) → Valid maxZoom t → OfMap t
-map-tile t v = record { zoom = v .zoom; column = v .column; row = v .row }
 
 -- the numbers of tiles of the map name tiles of the map
 pub named-within : (placed : Bool) (l : List ℕ) → TileNumbers (sortKey placed) l → Within maxZoom (named (sortTile placed) l)

@@ -3,8 +3,7 @@ use Prim.Native.Nat.{ℕ, _-_, _≤_, _<_}
 use native.Mathlib.Omega.{arith}
 use lib.ListN.{length}
 use Rattle.settle.specs.Middle.{place-at}
-use Rattle.settle.specs.Places.{endOf}
-use Rattle.settle.specs.Settle.{tiles}
+use Rattle.quadtree.specs.Places.{endOf, tiles}
 use Rattle.ancestors.specs.Tops.{Ahead, ahead-more, passed-one}
 use Rattle.ancestors.proofs.top_of.Statement.{statement}
 use Rattle.ancestors.proofs.top_of.Tie as tie

@@ -5,7 +5,7 @@ use native.Mathlib.Omega.{arith}
 use borrow.Author.Needs.{needs}
 use lib.ListN.{length, getD}
 use Rattle.constants.specs.Limits.{maxZoom-small}
-use Rattle.settle.specs.Places.{IsPlace}
+use Rattle.quadtree.specs.Places.{IsPlace}
 use Rattle.ancestors.specs.Laws.{Tested, untested, tested-more}
 use Rattle.ancestors.specs.Walk.{Walk, begun, top-place, next-place, next-ahead, skipped, kept, ended}
 use Rattle.ancestors.proofs.uncovered.Statement.{statement}

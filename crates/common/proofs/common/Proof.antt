@@ -6,7 +6,7 @@ use native.Mathlib.Omega.{arith}
 use lib.ListN.{length, getD, length-set}
 use borrow.Author.Needs.{needs}
 use borrow.Author.Tests.{ltb-true, ltb-false}
-use Rattle.settle.specs.Places.{IsPlace, room}
+use Rattle.quadtree.specs.Places.{IsPlace, room}
 use Rattle.common.specs.Walk.{Walked, begun, turned, over, inside, nested, ended}
 use Rattle.common.proofs.common.Statement.{statement}
 use Rattle.common.proofs.common.Tie as tie

@@ -7,7 +7,7 @@ use borrow.Fn.Kinds.{In}
 use borrow.Fn.PlainCycle.{Measures, is, falls, and}
 use Rattle.constants.specs.Limits.{maxZoom}
 use Rattle.quadtree.specs.Numbers.{placeTile}
-use Rattle.settle.specs.Places.{Room, room}
+use Rattle.quadtree.specs.Places.{Room, room}
 use Rattle.difference.specs.Steps.{passed-on, kept-clear, dropped, handing, handed}
 use Rattle.difference.specs.Steps.{childAt, AtChild, around, before-children, steps, fewer-levels, at-child, child-walked, children-walked}
 use Rattle.difference.specs.Walk.{AtTile, Clear, wrote-length}
@@ -20,7 +20,7 @@ use Rattle.difference.proofs.+four+tile.Lts-tile as tile-lts
 use Rattle.difference.proofs.clear.Reads as clear-reads
 use Rattle.difference.proofs.keep.Reads as keep-reads
 use Rattle.difference.proofs.passed.Reads as passed-reads
-use Rattle.settle.proofs.low_bit.Reads as low-bit-reads
+use Rattle.quadtree.proofs.low_bit.Reads as low-bit-reads
 use Rattle.difference.proofs.+four+tile.{statement}
 use Rattle.difference.proofs.+four+tile.Tie.{close}
 

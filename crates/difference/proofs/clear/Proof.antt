@@ -2,7 +2,7 @@
 use native.Mathlib.Omega.{arith}
 use borrow.Author.Needs.{needs}
 use lib.ListN.{getD}
-use Rattle.settle.specs.Places.{IsPlace, room}
+use Rattle.quadtree.specs.Places.{IsPlace, room}
 use Rattle.difference.proofs.clear.Statement.{statement}
 use Rattle.difference.proofs.clear.Tie as tie
 

@@ -3,7 +3,7 @@ use Prim.Native.Nat.{_-_}
 use native.Mathlib.Omega.{arith}
 use borrow.Author.Needs.{needs}
 use lib.ListN.{length, getD}
-use Rattle.settle.specs.Places.{IsPlace, room}
+use Rattle.quadtree.specs.Places.{IsPlace, room}
 use Rattle.difference.specs.Walk.{Behind, behind-more}
 use Rattle.difference.proofs.passed.Statement.{statement}
 use Rattle.difference.proofs.passed.Tie as tie

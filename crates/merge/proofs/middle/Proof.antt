@@ -1,7 +1,7 @@
 -- `middle` lends a scratch as long as the list.
 use native.Mathlib.Omega.{arith}
 use Rattle.constants.specs.Limits.{maxEntries}
-use Rattle.settle.specs.Lists.{scratch-part}
+use Rattle.sort.specs.At.{scratch-part}
 use borrow.Author.Needs.{needs}
 use Rattle.merge.proofs.middle.Statement.{statement}
 use Rattle.merge.proofs.middle.Tie as tie

@@ -5,7 +5,7 @@ use native.Mathlib.Omega.{arith}
 use borrow.Author.Needs.{needs}
 use borrow.Author.Tests.{eqb-true, eq-eqb}
 use Rattle.quadtree.specs.Numbers.{quadOf, placeTile}
-use Rattle.settle.specs.Places.{lowOf}
+use Rattle.quadtree.specs.Places.{lowOf}
 use Rattle.settle.specs.Siblings.{siblings-fit, family-siblings, siblings-family, no-family}
 use Rattle.settle.proofs.family.Statement.{statement}
 use Rattle.settle.proofs.family.Tie as tie

@@ -5,8 +5,8 @@ use Prim.Native.Nat.{ℕ}
 use native.Mathlib.Omega.{arith}
 use Rattle.quadtree.specs.Numbers.{placeTile}
 use Rattle.tile.specs.declared.Tile.{Tile}
-use Rattle.settle.specs.Places.{room}
-use Rattle.settle.specs.Settle.{Stand, tiles, Family, Joins, stop, join}
+use Rattle.quadtree.specs.Places.{room, tiles}
+use Rattle.settle.specs.Settle.{Stand, Family, Joins, stop, join}
 use Rattle.settle.specs.Siblings.{siblings-fit, parent, family-siblings, join-stand}
 use Rattle.settle.proofs.joined.Statement.{statement}
 use Rattle.settle.proofs.joined.Tie as tie

@@ -1,7 +1,7 @@
 -- `quad`: a quad stands above the lowest set bit of its place.
 use native.Mathlib.Omega.{arith}
 use Rattle.constants.specs.Limits.{maxZoom-small}
-use Rattle.settle.specs.Places.{zeros-of, quad-of}
+use Rattle.quadtree.specs.Places.{zeros-of, quad-of}
 use Rattle.settle.proofs.quad.Statement.{statement}
 use Rattle.settle.proofs.quad.Tie as tie
 

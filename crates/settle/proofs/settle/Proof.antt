@@ -5,7 +5,7 @@ use Prim.Native.Nat.{ℕ, _-_, _≤_}
 use native.Mathlib.Omega.{arith}
 use borrow.Author.Needs.{needs}
 use lib.ListN.{length, getD}
-use Rattle.settle.specs.Places.{IsPlace, room}
+use Rattle.quadtree.specs.Places.{IsPlace, room}
 use Rattle.settle.specs.Middle.{Mid, begun, next-place, joins-less, dropped, kept-top, ended}
 use Rattle.settle.proofs.settle.Statement.{statement}
 use Rattle.settle.proofs.settle.Tie as tie

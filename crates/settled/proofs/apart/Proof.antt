@@ -5,7 +5,7 @@ use Prim.Native.Nat.{_-_}
 use native.Mathlib.Omega.{arith}
 use lib.ListN.{length, getD}
 use borrow.Author.Needs.{needs}
-use Rattle.settle.specs.Places.{room}
+use Rattle.quadtree.specs.Places.{room}
 use Rattle.settle.specs.Settle.{Stand}
 use Rattle.settled.specs.Walk.{Loose, loose-none, stands, nested, family-found, loose-next, loose-all}
 use Rattle.settled.proofs.apart.Statement.{statement}

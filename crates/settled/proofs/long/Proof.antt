@@ -4,7 +4,7 @@ use Prim.Native.Nat.{ℕ}
 use native.Mathlib.Omega.{arith}
 use lib.ListN.{length-replicate}
 use Rattle.constants.specs.Limits.{maxEntries}
-use Rattle.settle.specs.Lists.{scratch-part}
+use Rattle.sort.specs.At.{scratch-part}
 use borrow.Author.Needs.{needs}
 use Rattle.settled.proofs.long.Statement.{statement}
 use Rattle.settled.proofs.long.Tie as tie

@@ -1,19 +1,26 @@
 -- Where tiles lie along the quadtree: a tile's run goes from `startOf` to `endOf`, round its place. Runs are nested as their tiles are, or apart.
 use mathlib.Core.Path.{_≡_, sym, ap, _∙_, subst}
+use mathlib.Core.List.{List}
 use Prim.Native.Nat.{ℕ, suc, _+_, _-_, _*_, _/_, _%_, _^_, _≤_, _<_}
 use native.Mathlib.Decide.{decLe, decLt}
 use native.Mathlib.Nat.{pow-suc, pow-le-pow-right, mul-le-mul-right, div-mul-le-self, lt-div-mul-add, le-div-iff-mul-le, div-lt-iff-lt-mul}
 use native.Mathlib.Omega.{arith}
 use lib.Count.{trailingZeros}
+use lib.ListN.{getD, length}
 use lib.Pow.{pow-pos, pow-add}
 use Rattle.constants.specs.Limits.{maxZoom, maxZoom-small}
 use Rattle.ids.specs.Laws.{four-side}
 use Rattle.quadtree.specs.Numbers.{OfMap, quadOf, placeOf, placeTile}
 use Rattle.quadtree.specs.Laws.{quad-child, quad-ancestor, quad-bounds, quad-inj, four-quads, place-zeros, place-quad, place-tile}
 use Rattle.tile.specs.declared.Tile.{Tile}
-use Rattle.tile_list.specs.Laws.{valid-tile, map-tile}
-use Rattle.tile_set.specs.Holds.{Holds, holds-refl, holds-level, ancestor-holds, holder-is-ancestor, child-held, child-of-parent, valid-holder}
+use Rattle.tile_set.specs.Holds.{Valid, Holds, holds-refl, holds-level, ancestor-holds, holder-is-ancestor, child-held, child-of-parent, valid-holder}
 use Rattle.tile_set.specs.Set.{ancestor, child, parentTile}
+
+pub valid-tile : (t : Tile) → OfMap t → Valid maxZoom t
+valid-tile t m = record { zoom = m .zoom; column = m .column; row = m .row }
+
+pub map-tile : (t : Tile) → Valid maxZoom t → OfMap t
+map-tile t v = record { zoom = v .zoom; column = v .column; row = v .row }
 
 -- the lowest set bit of the tile's place, and half the length of its run
 unfoldable pub lowOf : Tile → ℕ
@@ -228,3 +235,12 @@ room {k} s e =
     let t = placeTile k in
     let p = s .again in
     record { some = omega (arith, low-pos t); below = omega (arith, low-below t); fits = omega (arith, end-small t (s .of-map)) }
+
+-- the tile of the i-th number
+abbrev pub tiles : List ℕ → ℕ → Tile
+tiles l i = placeTile (getD l i 0)
+
+-- places of tiles whose runs along the quadtree follow each other
+pub record Runs (l : List ℕ) : Type 0 where
+  pub each : (i : ℕ) → i < length l → IsPlace (getD l i 0)
+  pub rise : (i j : ℕ) → i < j → j < length l → endOf (tiles l i) ≤ startOf (tiles l j)

@@ -6,9 +6,9 @@ use native.Mathlib.Omega.{arith}
 use lib.Count.{trailingZeros}
 use Rattle.bits.specs.Powers.{pow-within}
 use Rattle.constants.specs.Limits.{maxZoom-small}
-use Rattle.settle.specs.Places.{zeros-of, low-of}
-use Rattle.settle.proofs.low_bit.Statement.{statement}
-use Rattle.settle.proofs.low_bit.Tie as tie
+use Rattle.quadtree.specs.Places.{zeros-of, low-of}
+use Rattle.quadtree.proofs.low_bit.Statement.{statement}
+use Rattle.quadtree.proofs.low_bit.Tie as tie
 
 cast-result : tie.Need-cast-result
 cast-result c = omega (arith, zeros-of (c .pre), maxZoom-small)
