@@ -79,7 +79,8 @@ module _ (a b : List ℕ) (passed : pairTests a b ≡ 0) where
   pub join-entries : (all : Bool) → entriesInOrder (madeSet all (placesOf a) (placesOf b)) ≡ joinEntries all a b
   join-entries true =
       simplified-entries (λ X Y. groundOf a X Y || groundOf b X Y) (named placeTile (placesOf a ++ placesOf b))
-      (subst (λ (S : Tile → Bool). Cover maxZoom (λ X Y. groundOf a X Y || groundOf b X Y) (λ t. S t ≡ true)) (λ i t. sym (named-append placeTile (placesOf a) (placesOf b) t) i)
+      (subst (λ (S : Tile → Bool). Cover maxZoom (λ X Y. groundOf a X Y || groundOf b X Y) (λ t. S t ≡ true))
+      (λ i t. sym (named-append placeTile (placesOf a) (placesOf b) t) i)
       (union-covers (named placeTile (placesOf a)) (named placeTile (placesOf b)) (places-cover a entries-a) (places-cover b entries-b)))
   join-entries false =
       largest-entries (λ X Y. groundOf a X Y && groundOf b X Y) (shared (named placeTile (placesOf a)) (named placeTile (placesOf b)))
@@ -91,7 +92,8 @@ module _ (a b : List ℕ) (passed : pairTests a b ≡ 0) where
   left-entries =
       largest-entries (λ X Y. groundOf a X Y && not (groundOf b X Y)) (leftSet a b)
       (difference-covers (placesOf a) (placesOf b) (groundOf a) (groundOf b) (places-cover a entries-a) (places-cover b entries-b))
-      (difference-tops (placesOf a) (placesOf b) (groundOf a) (groundOf b) (places-cover a entries-a) (places-cover b entries-b) (places-tops a entries-a settled-a))
+      (difference-tops (placesOf a) (placesOf b) (groundOf a) (groundOf b) (places-cover a entries-a) (places-cover b entries-b)
+      (places-tops a entries-a settled-a))
 
 pub places-length : (list : List ℕ) → length (placesOf list) ≡ length list
 places-length list = sort-length (map (entryKey true) list) ∙ length-map list (entryKey true)
@@ -156,7 +158,9 @@ module _ (a b keys : List ℕ) (r : Ready a b keys) where
     left-twice = take-all n (take n after) (omega (arith, length-take-le n after (left-all .1)))
 
     pub left-rest : drop n after ≡ drop n before
-    left-rest = rw left-first (drop-at (map placeOf tiles-left) (drop (length (map placeOf tiles-left)) before) n left-many ∙ ap (λ (i : ℕ). drop i before) left-many)
+    left-rest = rw left-first
+        (drop-at (map placeOf tiles-left) (drop (length (map placeOf tiles-left)) before) n left-many
+        ∙ ap (λ (i : ℕ). drop i before) left-many)
 
     left-numbers : TileNumbers placeOf (take n after)
     left-numbers = rw (left-all .0) (runs-numbers (map placeOf tiles-left) (without-runs (placesOf a) (placesOf b) (r .in-runs .first)))

@@ -47,7 +47,14 @@ one-settled G list s e = sym (entries list) ∙ ap entriesOf (one-settled-list m
 
 -- no ground, no entries
 pub settled-none : settledEntries (λ X Y. false) ≡ []
-settled-none = sym (one-settled (λ X Y. false) [] (record { of-map = λ t m. absurd (List·Memᴰ·not-nil m); in-order = tt; apart = λ s t m. absurd (List·Memᴰ·not-nil m); no-four = λ p m. absurd (List·Memᴰ·not-nil m) }) empty)
+settled-none = sym (one-settled (λ X Y. false) []
+    (record {
+      of-map = λ t m. absurd (List·Memᴰ·not-nil m);
+      in-order = tt;
+      apart = λ s t m. absurd (List·Memᴰ·not-nil m);
+      no-four =
+          λ p m. absurd (List·Memᴰ·not-nil m);
+    }) empty)
   where
     empty : Same maxZoom (groundOf []) (λ X Y. false)
     empty X Y a b = is-false (groundOf [] X Y) (λ e. List·Memᴰ·not-nil (ground-of [] X Y (λ t m. absurd (List·Memᴰ·not-nil m)) e .1))

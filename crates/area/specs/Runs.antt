@@ -61,11 +61,13 @@ module _ (places : List ℕ) (n : ℕ) where
     part-lengths = rw (tail-part, length-take-le n places (p .within), length-drop n places) (omega (arith, p .within))
 
     pub parted-common : (out : List ℕ) → length places ≡ length out
-        → Runs (take n places) × Runs (take (length places - n) (drop n places)) × (length (take n places) + length (take (length places - n) (drop n places)) ≤ length out)
+        → Runs (take n places) × Runs (take (length places - n) (drop n places))
+        × (length (take n places) + length (take (length places - n) (drop n places)) ≤ length out)
     parted-common out e = (p .first, parted-left .1, omega (arith, part-lengths))
 
     pub parted-merge : (out : List ℕ) → length places ≡ length out
-        → By (λ n. n) (take n places) × By (λ n. n) (take (length places - n) (drop n places)) × (length (take n places) + length (take (length places - n) (drop n places)) ≡ length out)
+        → By (λ n. n) (take n places) × By (λ n. n) (take (length places - n) (drop n places))
+        × (length (take n places) + length (take (length places - n) (drop n places)) ≡ length out)
     parted-merge out e = (runs-by (take n places) (p .first), runs-by _ (parted-left .1), part-lengths ∙ e)
 
     -- both parts in one order are all places in order

@@ -20,7 +20,8 @@ Keeps chunk line after (So f) = take (f .len) after ≡ keptOf line chunk
 Keeps chunk line after Unwritten = Unit {0}
 
 -- behind a chunk that is used up
-pub nothing-more : (chunk : List ℕ) (at len : ℕ) (line : List ℕ) → length line ≡ suc maxLine → length chunk ≤ at → take len line ≡ keptOf (take len line) (drop at chunk)
+pub nothing-more : (chunk : List ℕ) (at len : ℕ) (line : List ℕ) → length line ≡ suc maxLine → length chunk ≤ at
+    → take len line ≡ keptOf (take len line) (drop at chunk)
 unfolding soFar
 nothing-more chunk at len line h k =
     let short : length (take len line) ≤ suc maxLine = omega (arith, length-take len line, h) in

@@ -52,13 +52,21 @@ read true a true b h =
 
 write : (s : Bool) (a : ℕ) (t : Bool) (b : ℕ) → Le s a t b → T (below s a t b || level s a t b)
 write false a false b h =
-    elim (eq-or-lt-of-le h) [ inl e ↦ right (ltb a b) (eqb a b && true) (and-i (eqb a b) true (eq→eqb e) tt) | inr l ↦ left (ltb a b) (eqb a b && true) (lt→ltb a b l) ]
+    elim (eq-or-lt-of-le h) [
+      | inl e ↦ right (ltb a b) (eqb a b && true) (and-i (eqb a b) true (eq→eqb e) tt)
+      | inr l ↦ left (ltb a b)
+          (eqb a b && true) (lt→ltb a b l)
+    ]
 write false a true b h = and-i (eqb a b) (eqb a 0) (eq→eqb (h .0 ∙ sym (h .1))) (eq→eqb (h .0))
 write true zero false zero h = tt
 write true zero false (suc b) h = left (ltb 0 (0 + suc b)) (level true 0 false (suc b)) (lt→ltb 0 (0 + suc b) (omega arith))
 write true (suc a) false b h = left (ltb 0 (suc a + b)) (level true (suc a) false b) (lt→ltb 0 (suc a + b) (omega arith))
 write true a true b h =
-    elim (eq-or-lt-of-le h) [ inl e ↦ right (ltb b a) (eqb a b && true) (and-i (eqb a b) true (eq→eqb (sym e)) tt) | inr l ↦ left (ltb b a) (eqb a b && true) (lt→ltb b a l) ]
+    elim (eq-or-lt-of-le h) [
+      | inl e ↦ right (ltb b a) (eqb a b && true) (and-i (eqb a b) true (eq→eqb (sym e)) tt)
+      | inr l ↦ left
+          (ltb b a) (eqb a b && true) (lt→ltb b a l)
+    ]
 
 -- ---- fractions P / p, Q / q and R / r
 

@@ -15,8 +15,10 @@ abbrev pub contains_bbox : BBox → BBox → Bool
 contains_bbox self other =
     cond (crosses self)
     (cond (crosses other)
-    (cond (atMost (self .west) (other .west) && atMost (other .east) (self .east)) (atMost (self .south) (other .south) && atMost (other .north) (self .north)) false)
-    (cond (atMost (self .west) (other .west) || atMost (other .east) (self .east)) (atMost (self .south) (other .south) && atMost (other .north) (self .north)) false))
+    (cond (atMost (self .west) (other .west) && atMost (other .east) (self .east))
+    (atMost (self .south) (other .south) && atMost (other .north) (self .north)) false)
+    (cond (atMost (self .west) (other .west) || atMost (other .east) (self .east))
+    (atMost (self .south) (other .south) && atMost (other .north) (self .north)) false))
     (atMost (other .north) (self .north) && atMost (self .south) (other .south) && atMost (other .east) (self .east) && atMost (self .west) (other .west))
 
 abbrev pub is_within : BBox → BBox → Bool

@@ -10,7 +10,8 @@ use lib.Ieee.Bits.{is-true, is-false}
 use lib.Ieee.Fits.{and-i, and-l, and-r}
 use Rattle.bbox.specs.declared.BBox.{BBox}
 use Rattle.bbox.specs.declared.LngLat.{LngLat}
-use Rattle.bbox.specs.Box.{atMost, box, point, crosses, lngInside, latInside, containsPoint, lngsInside, latsInside, lngsInPart, containsBox, within, meets, degrees, mapWest, mapEast, toAntimeridian, fromAntimeridian, parts}
+use Rattle.bbox.specs.Box.{atMost, box, point, crosses, lngInside, latInside, containsPoint, lngsInside, latsInside, lngsInPart}
+use Rattle.bbox.specs.Box.{containsBox, within, meets, degrees, mapWest, mapEast, toAntimeridian, fromAntimeridian, parts}
 use Rattle.bbox.specs.Laws as laws
 use Rattle.bbox.specs.Order as order
 use Rattle.bbox.specs.Rust as rust
@@ -24,7 +25,8 @@ rust-contains-lnglat b p =
 
 pub rust-contains-bbox : (a b : BBox) → rust.contains_bbox a b ≡ containsBox a b
 rust-contains-bbox a b =
-    laws.box-tests (crosses a) (crosses b) (atMost (a .west) (b .west)) (atMost (b .east) (a .east)) (atMost (a .south) (b .south)) (atMost (b .north) (a .north))
+    laws.box-tests (crosses a) (crosses b) (atMost (a .west) (b .west)) (atMost (b .east) (a .east)) (atMost (a .south) (b .south))
+    (atMost (b .north) (a .north))
 
 pub rust-is-within : (a b : BBox) → rust.is_within a b ≡ within a b
 rust-is-within a b = rw laws.backward
@@ -91,7 +93,8 @@ nan-edge-contains-no-box a b =
     let south = order.first-known (a .south) (b .south) in
     let north = order.second-known (b .north) (a .north) in
     laws.rules-out (hasNan a) (containsBox a b)
-    (laws.in-box (crosses a && not (crosses b)) (atMost (a .west) (b .west)) (atMost (b .east) (a .east)) (atMost (a .south) (b .south)) (atMost (b .north) (a .north))
+    (laws.in-box (crosses a && not (crosses b)) (atMost (a .west) (b .west)) (atMost (b .east) (a .east)) (atMost (a .south) (b .south))
+    (atMost (b .north) (a .north))
     (λ c w s n. no-nan-crossing a (and-l (crosses a) (not (crosses b)) c) (south s) (north n))
     (λ c e s n. no-nan-crossing a (and-l (crosses a) (not (crosses b)) c) (south s) (north n))
     (λ w e s n. no-nan a (order.first-known (a .west) (b .west) w) (south s) (order.second-known (b .east) (a .east) e) (north n)))
@@ -102,8 +105,10 @@ nan-edge-is-not-within a b =
     laws.rules-out (hasNan a || hasNan b) (within a b)
     (laws.all-four (atMost (b .west) (a .west)) (atMost (a .east) (b .east)) (atMost (b .south) (a .south)) (atMost (a .north) (b .north))
     (λ w e s n. laws.neither (hasNan a) (hasNan b)
-    (no-nan a (order.second-known (b .west) (a .west) w) (order.second-known (b .south) (a .south) s) (order.first-known (a .east) (b .east) e) (order.first-known (a .north) (b .north) n))
-    (no-nan b (order.first-known (b .west) (a .west) w) (order.first-known (b .south) (a .south) s) (order.second-known (a .east) (b .east) e) (order.second-known (a .north) (b .north) n))))
+    (no-nan a (order.second-known (b .west) (a .west) w) (order.second-known (b .south) (a .south) s)
+    (order.first-known (a .east) (b .east) e) (order.first-known (a .north) (b .north) n))
+    (no-nan b (order.first-known (b .west) (a .west) w) (order.first-known (b .south) (a .south) s)
+    (order.second-known (a .east) (b .east) e) (order.second-known (a .north) (b .north) n))))
 
 -- and meets no box: `intersects` is false where any of the eight numbers is NaN.
 pub nan-edge-meets-no-box : (a b : BBox) → T (hasNan a || hasNan b) → T (not (meets a b))
@@ -111,8 +116,10 @@ nan-edge-meets-no-box a b =
     laws.rules-out (hasNan a || hasNan b) (meets a b)
     (laws.all-four (atMost (a .west) (b .east)) (atMost (b .west) (a .east)) (atMost (a .south) (b .north)) (atMost (b .south) (a .north))
     (λ w e s n. laws.neither (hasNan a) (hasNan b)
-    (no-nan a (order.first-known (a .west) (b .east) w) (order.first-known (a .south) (b .north) s) (order.second-known (b .west) (a .east) e) (order.second-known (b .south) (a .north) n))
-    (no-nan b (order.first-known (b .west) (a .east) e) (order.first-known (b .south) (a .north) n) (order.second-known (a .west) (b .east) w) (order.second-known (a .south) (b .north) s))))
+    (no-nan a (order.first-known (a .west) (b .east) w) (order.first-known (a .south) (b .north) s)
+    (order.second-known (b .west) (a .east) e) (order.second-known (b .south) (a .north) n))
+    (no-nan b (order.first-known (b .west) (a .east) e) (order.first-known (b .south) (a .north) n)
+    (order.second-known (a .west) (b .east) w) (order.second-known (a .south) (b .north) s))))
 
 -- But a box that crosses contains one with a NaN west, since one of two tests is enough there, as in the Rust:
 -- the box from 170 to -170 contains the one from NaN to -175.
@@ -145,8 +152,10 @@ contains-its-points a b p o h k =
     (atMost (a .west) (p .lng)) (atMost (p .lng) (a .east)) (order.le-through (a .west) (b .west) (p .lng)) (order.le-through (p .lng) (b .east) (a .east)) o
     (and-l lngs (latsInside a b) h) (and-l (lngInside b (p .lng)) (latInside b (p .lat)) k))
     (and-i (atMost (a .south) (p .lat)) (atMost (p .lat) (a .north))
-    (order.le-through (a .south) (b .south) (p .lat) (and-l (atMost (a .south) (b .south)) (atMost (b .north) (a .north)) lats) (and-l (atMost (b .south) (p .lat)) (atMost (p .lat) (b .north)) lat))
-    (order.le-through (p .lat) (b .north) (a .north) (and-r (atMost (b .south) (p .lat)) (atMost (p .lat) (b .north)) lat) (and-r (atMost (a .south) (b .south)) (atMost (b .north) (a .north)) lats)))
+    (order.le-through (a .south) (b .south) (p .lat) (and-l (atMost (a .south) (b .south)) (atMost (b .north) (a .north)) lats)
+    (and-l (atMost (b .south) (p .lat)) (atMost (p .lat) (b .north)) lat))
+    (order.le-through (p .lat) (b .north) (a .north) (and-r (atMost (b .south) (p .lat)) (atMost (p .lat) (b .north)) lat)
+    (and-r (atMost (a .south) (b .south)) (atMost (b .north) (a .north)) lats)))
 
 -- Where the other one alone crosses, the Rust looks at the edges only:
 -- the box from -10 to 10 contains the one from 5 round to -5, and not its point at 90.
@@ -165,9 +174,13 @@ meets-both-ways a b = laws.pairs-swap (atMost (a .west) (b .east)) (atMost (b .w
 -- Boxes that do not cross and share a point meet;
 pub sharing-boxes-meet : (a b : BBox) (p : LngLat) → T (not (crosses a)) → T (not (crosses b)) → T (containsPoint a p) → T (containsPoint b p) → T (meets a b)
 sharing-boxes-meet a b p ha hb ia ib =
-    passed a ha (λ w e s n. passed b hb (λ w' e' s' n'. and-i (atMost (a .west) (b .east) && atMost (b .west) (a .east)) (atMost (a .south) (b .north) && atMost (b .south) (a .north))
-    (and-i (atMost (a .west) (b .east)) (atMost (b .west) (a .east)) (order.le-through (a .west) (p .lng) (b .east) w e') (order.le-through (b .west) (p .lng) (a .east) w' e))
-    (and-i (atMost (a .south) (b .north)) (atMost (b .south) (a .north)) (order.le-through (a .south) (p .lat) (b .north) s n') (order.le-through (b .south) (p .lat) (a .north) s' n))) ib) ia
+    passed a ha (λ w e s n. passed b hb
+    (λ w' e' s' n'. and-i (atMost (a .west) (b .east) && atMost (b .west) (a .east))
+    (atMost (a .south) (b .north) && atMost (b .south) (a .north))
+    (and-i (atMost (a .west) (b .east)) (atMost (b .west) (a .east)) (order.le-through (a .west) (p .lng) (b .east) w e')
+    (order.le-through (b .west) (p .lng) (a .east) w' e))
+    (and-i (atMost (a .south) (b .north)) (atMost (b .south) (a .north)) (order.le-through (a .south) (p .lat) (b .north) s n')
+    (order.le-through (b .south) (p .lat) (a .north) s' n))) ib) ia
   where
     passed : {A : Type 0} (c : BBox) → T (not (crosses c))
         → (T (atMost (c .west) (p .lng)) → T (atMost (p .lng) (c .east)) → T (atMost (c .south) (p .lat)) → T (atMost (p .lat) (c .north)) → A)
@@ -184,8 +197,11 @@ meeting-boxes-share a b ha hb =
     (λ w e s n.
     let x = order.common (a .west) (a .east) (b .west) (b .east) (lngs a ha) (lngs b hb) w e in
     let y = order.common (a .south) (a .north) (b .south) (b .north) (lats a ha) (lats b hb) s n in
-    let p = point (x .0) (y .0) in
-    (p, and-i (containsPoint a p) (containsPoint b p) (holds a ha p (x .1 .0) (x .1 .1) (y .1 .0) (y .1 .1)) (holds b hb p (x .1 .2) (x .1 .3) (y .1 .2) (y .1 .3))))
+    let p = point (x .0) (y .0) in (
+      p,
+      and-i (containsPoint a p) (containsPoint b p) (holds a ha p (x .1 .0) (x .1 .1) (y .1 .0) (y .1 .1))
+          (holds b hb p (x .1 .2) (x .1 .3) (y .1 .2) (y .1 .3)),
+    ))
   where
     lngs : (c : BBox) → T (upright c) → T (atMost (c .west) (c .east))
     lngs c = and-l (atMost (c .west) (c .east)) (atMost (c .south) (c .north))
@@ -194,7 +210,8 @@ meeting-boxes-share a b ha hb =
     lats c = and-r (atMost (c .west) (c .east)) (atMost (c .south) (c .north))
 
     holds : (c : BBox) → T (upright c) → (p : LngLat)
-        → T (atMost (c .west) (p .lng)) → T (atMost (p .lng) (c .east)) → T (atMost (c .south) (p .lat)) → T (atMost (p .lat) (c .north)) → T (containsPoint c p)
+        → T (atMost (c .west) (p .lng)) → T (atMost (p .lng) (c .east)) → T (atMost (c .south) (p .lat)) → T (atMost (p .lat) (c .north))
+        → T (containsPoint c p)
     holds c h p =
         laws.in-upright (crosses c) (atMost (c .west) (p .lng)) (atMost (p .lng) (c .east)) (atMost (c .south) (p .lat)) (atMost (p .lat) (c .north))
         (order.le-not-above (c .west) (c .east) (lngs c h))
@@ -223,7 +240,8 @@ module _ (b : BBox) (h : T (onMap b)) where
   uncrossed-second = is-false (crosses (fromAntimeridian b)) second-does-not-cross
 
 -- a test agrees with that of the parts, if it does where there are two of them
-by-parts : (b : BBox) (test : BBox → Bool) → (crosses b ≡ true → test (toAntimeridian b) || (test (fromAntimeridian b) || false) ≡ test b) → anyOf (parts b) test ≡ test b
+by-parts : (b : BBox) (test : BBox → Bool) → (crosses b ≡ true → test (toAntimeridian b) || (test (fromAntimeridian b) || false) ≡ test b)
+    → anyOf (parts b) test ≡ test b
 by-parts b test halves = go (crosses b) refl
   where
     go : (c : Bool) → crosses b ≡ c → anyOf (cond c (toAntimeridian b ∷ fromAntimeridian b ∷ []) (b ∷ [])) test ≡ test b

@@ -147,7 +147,8 @@ count-once : (p : ℕ → Bool) (l : List ℕ) → ((i j : ℕ) → i < j → j 
 unfolding countOf
 count-once p [] h = omega arith
 count-once p (k ∷ l) h =
-    pick (p k) (λ e. count-none p l (λ i a f. h 0 (suc i) (omega arith) (omega arith) e f)) (count-once p l (λ i j a b. h (suc i) (suc j) (omega arith) (omega arith)))
+    pick (p k) (λ e. count-none p l (λ i a f. h 0 (suc i) (omega arith) (omega arith) e f))
+    (count-once p l (λ i j a b. h (suc i) (suc j) (omega arith) (omega arith)))
   where
     pick : (b : Bool) → (b ≡ true → countOf p l ≡ 0) → countOf p l ≤ 1 → one b + countOf p l ≤ 1
     pick true f e = omega (arith, f refl)

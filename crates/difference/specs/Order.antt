@@ -74,7 +74,8 @@ module _ (gone : List Tile) where
   unfolding leftOf
   left-between zero t o e = between-cond t o (anyOf (λ g. holds g t) gone) (t ∷ []) (between-one t o)
   left-between (suc d) t o e =
-      between-cond t o (anyOf (λ g. holds g t) gone) _ (pick (anyOf (λ g. holds t g) gone) (λ i j x y. left-between d (child t i j) (of-map i j x y) (omega arith)))
+      between-cond t o (anyOf (λ g. holds g t) gone) _
+      (pick (anyOf (λ g. holds t g) gone) (λ i j x y. left-between d (child t i j) (of-map i j x y) (omega arith)))
     where
       of-map : (i j : ℕ) → i < 2 → j < 2 → OfMap (child t i j)
       of-map i j x y = map-tile (child t i j) (valid-child i j (valid-tile t o) (omega arith) x y)

@@ -5,7 +5,8 @@ use Prim.Native.Nat.{ℕ, zero, suc}
 use lib.Dec.{ltb}
 use lib.ListN.{length, drop}
 use Rattle.errors.specs.declared.Refusal.{Refusal}
-use Rattle.errors.specs.declared.Refusal.the-variants.{Zoom, OffMap, NoRelative, KeyLength, KeyByte, TooMany, NoTile, EmptyList, MixedZooms, NoBox, NotSettled, Memory, LineLength, Brackets, NoForm}
+use Rattle.errors.specs.declared.Refusal.the-variants.{Zoom, OffMap, NoRelative, KeyLength, KeyByte, TooMany, NoTile, EmptyList}
+use Rattle.errors.specs.declared.Refusal.the-variants.{MixedZooms, NoBox, NotSettled, Memory, LineLength, Brackets, NoForm}
 
 infixr 20 _else_
 infix 25 _when_

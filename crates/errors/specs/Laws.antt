@@ -6,7 +6,8 @@ use native.Mathlib.Omega.{arith}
 use Rattle.errors.specs.Answer.{answer, lent, numberOf, _else_}
 use Rattle.errors.specs.Cases.{refusedAs, checkNumber, left}
 use Rattle.errors.specs.declared.Refusal.{Refusal}
-use Rattle.errors.specs.declared.Refusal.the-variants.{Zoom, OffMap, NoRelative, KeyLength, KeyByte, TooMany, NoTile, EmptyList, MixedZooms, NoBox, NotSettled, Memory, LineLength, Brackets, NoForm}
+use Rattle.errors.specs.declared.Refusal.the-variants.{Zoom, OffMap, NoRelative, KeyLength, KeyByte, TooMany, NoTile, EmptyList}
+use Rattle.errors.specs.declared.Refusal.the-variants.{MixedZooms, NoBox, NotSettled, Memory, LineLength, Brackets, NoForm}
 use Rattle.errors.specs.declared.Check.{Check}
 use Rattle.errors.specs.declared.Check.the-variants as check
 use Rattle.errors.specs.declared.Count.the-variants as count

@@ -23,7 +23,12 @@ front-length n items memory h k = rw (length-append, length-take-le n items h, l
 pub front-more : (n : ℕ) (items memory : List ℕ) → n < length items → n < length memory
     → set (front n items memory) n (getD items n 0) ≡ front (suc n) items memory
 front-more n items memory h k =
-    rw (drop-cons memory n 0 k, set-at (take n items) (getD memory n 0) (drop (suc n) memory) (getD items n 0) n (length-take-le n items (omega arith)), take-suc items n 0 h, append-assoc)
+    rw (
+      drop-cons memory n 0 k,
+      set-at (take n items) (getD memory n 0) (drop (suc n) memory) (getD items n 0) n (length-take-le n items (omega arith)),
+      take-suc items n 0 h,
+      append-assoc,
+    )
 
 -- the three ends of a call that writes a list
 pub written-refused : (why : Refusal) {n : ℕ} (items memory : List ℕ) → numberOf why ≡ n → left (count.Refused why) memory ≡ written n items memory

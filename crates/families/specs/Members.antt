@@ -67,7 +67,10 @@ run {q} l r a b c = two (next l r a)
 
 -- a family of which the first number is one begins the list
 family-first : (from p q : ℕ) (l : List ℕ) → Rising (q ∷ l) → Family from p (q ∷ l) → q / 4 ≡ p → fourFrom from (q ∷ l) ≡ true
-family-first from p q l r f e = here (run l r (later (suc q) 1 (omega (arith, start)) (omega arith, omega arith)) (later (suc (suc q)) 2 (omega (arith, start)) (omega arith, omega arith)) (later (suc (suc (suc q))) 3 (omega (arith, start)) (omega arith, omega arith)))
+family-first from p q l r f e =
+    here (run l r (later (suc q) 1 (omega (arith, start)) (omega arith, omega arith))
+    (later (suc (suc q)) 2 (omega (arith, start)) (omega arith, omega arith))
+    (later (suc (suc (suc q))) 3 (omega (arith, start)) (omega arith, omega arith)))
   where
     least : q ≤ 4 * p + 0
     least = at-least r (f .each 0 (omega arith))

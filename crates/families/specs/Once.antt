@@ -61,7 +61,8 @@ module _ (m : ℕ) (before : List ℕ) (q : TileNumbers quadOf before) (o : By (
               never : (t : Tile) → named quadTile l t ≡ true → joins m (named quadTile l) t ≡ true → ⊥
               never t n j =
                   let s = named-by quadTile l t n in
-                  let a = in-any (joins m S) (map quadTile l) (Memᴰ·cast (sym (s .2)) (into-map quadTile l (s .1))) (ap (λ (R : Tile → Bool). joins m R t) (sym same) ∙ j) in
+                  let a = in-any (joins m S) (map quadTile l) (Memᴰ·cast (sym (s .2)) (into-map quadTile l (s .1)))
+                  (ap (λ (R : Tile → Bool). joins m R t) (sym same) ∙ j) in
                   let z : _≡_ {A = ℕ} 0 1 = cc in
                   omega arith
 

@@ -57,7 +57,8 @@ module _ (m : ℕ) (l : List ℕ) (q : TileNumbers quadOf l) where
   family-at : (P : Tile) → OfMap P → P .z < maxZoom → Family (firstQuad m) (quadOf P) l → joined m S P ≡ true
   family-at P o h f =
       joined-when m S P .1 (
-        let k = first-above (child P 0 0) m (kid 0 0 (omega arith) (omega arith)) (rw (quad-child P 0 0 (omega arith) (omega arith)) (omega (arith, f .above))) in omega arith,
+        let k = first-above (child P 0 0) m (kid 0 0 (omega arith) (omega arith))
+            (rw (quad-child P 0 0 (omega arith) (omega arith)) (omega (arith, f .above))) in omega arith,
         whole-all S P .1 (λ i j a b. in-quad (child P i j) (kid i j a b) (Memᴰ·cast (quad-child P i j a b) (f .each (2 * j + i) (omega arith)))),
       )
     where
@@ -141,7 +142,8 @@ module _ (m : ℕ) (l : List ℕ) (q : TileNumbers quadOf l) where
             map : OfMap t
             map =
                 let c = quad-in (child t 0 0) (whole-all S t .0 (joined-when m S t .0 k .1) 0 0 (omega arith) (omega arith)) .0 in
-                subst (λ (s : Tile). OfMap s) (parent-of-child t 0 0 (omega arith) (omega arith)) (map-tile (parentTile (child t 0 0)) (valid-parent (valid-tile (child t 0 0) c)))
+                subst (λ (s : Tile). OfMap s) (parent-of-child t 0 0 (omega arith) (omega arith))
+                (map-tile (parentTile (child t 0 0)) (valid-parent (valid-tile (child t 0 0) c)))
 
     pub join-merges : (t : Tile) → named quadTile R t ≡ merged m S t
     join-merges t = bool-ext (named quadTile R t) (merged m S t) into out

@@ -105,7 +105,8 @@ module _ (bytes : List ℕ) where
   pair-front : (verb : Verb) → startsWith (pairFront verb) bytes ≡ false → (f g : Form) (rest : List ℕ) → FormFirst (pair verb f g) rest bytes → ⊥
   pair-front verb miss f g rest a =
       let body = text f ++ space ∷ (text g ++ closing ∷ rest) in
-      let e : opening ∷ (wordOf verb ++ space ∷ body) ≡ pairFront verb ++ body = ap (λ (t : List ℕ). opening ∷ t) (sym (append-assoc (wordOf verb) (space ∷ []) body)) in
+      let e : opening ∷ (wordOf verb ++ space ∷ body) ≡ pairFront verb ++ body =
+      ap (λ (t : List ℕ). opening ∷ t) (sym (append-assoc (wordOf verb) (space ∷ []) body)) in
       true≢false (sym (starts-with (pairFront verb) body) ∙ (ap (startsWith (pairFront verb)) (sym e ∙ (sym (pair-text verb f g rest) ∙ a .spelled)) ∙ miss))
 
   none : startsWith tilesFront bytes ≡ false → ((verb : Verb) → startsWith (pairFront verb) bytes ≡ false)
@@ -134,7 +135,9 @@ module _ (bytes : List ℕ) where
       third t p false e = fourth t p e (startsWith (pairFront Minus) bytes) refl
 
       second : startsWith tilesFront bytes ≡ false → (b : Bool) → startsWith (pairFront Plus) bytes ≡ b
-          → Opened (cond b (word.Pair Plus) (cond (startsWith (pairFront Both) bytes) (word.Pair Both) (cond (startsWith (pairFront Minus) bytes) (word.Pair Minus) word.Other))) bytes
+          → Opened (cond b (word.Pair Plus)
+          (cond (startsWith (pairFront Both) bytes) (word.Pair Both)
+          (cond (startsWith (pairFront Minus) bytes) (word.Pair Minus) word.Other))) bytes
       second t true e = start-split (pairFront Plus) bytes e
       second t false e = third t e (startsWith (pairFront Both) bytes) refl
 
@@ -160,7 +163,8 @@ abbrev pub ShiftFits : ℕ → End → Type 0
 ShiftFits n (At m) = n + m < 2 ^ 64
 ShiftFits n Nowhere = Unit
 
-pub shift-fits : (A : Type 0) (First : A → List ℕ → List ℕ → Type 0) (n : ℕ) (end : End) (bytes : List ℕ) → Ends A First end bytes → n + length bytes < 2 ^ 64 → ShiftFits n end
+pub shift-fits : (A : Type 0) (First : A → List ℕ → List ℕ → Type 0) (n : ℕ) (end : End) (bytes : List ℕ) → Ends A First end bytes
+    → n + length bytes < 2 ^ 64 → ShiftFits n end
 shift-fits A First n (At m) bytes e h = omega (arith, e .0, h)
 shift-fits A First n Nowhere bytes e h = tt
 

@@ -89,7 +89,8 @@ first-key [] rest bytes k = absurd (true≢false (sym (k .run)))
 first-key (b ∷ key) rest bytes k = rw (← k .spelled, run-length (b ∷ key) rest (k .run) (k .ended))
 
 -- the first of several keys
-pub keys-first-key : (key : List ℕ) (keys : List (List ℕ)) (rest bytes : List ℕ) → KeysFirst (key ∷ keys) rest bytes → KeyFirst key (spaced keys ++ closing ∷ rest) bytes
+pub keys-first-key : (key : List ℕ) (keys : List (List ℕ)) (rest bytes : List ℕ) → KeysFirst (key ∷ keys) rest bytes
+    → KeyFirst key (spaced keys ++ closing ∷ rest) bytes
 unfolding allRuns spaced
 keys-first-key key keys rest bytes a = record {
   run = and-parts (isRun key) (allRuns keys) (a .runs) .0;
@@ -109,7 +110,8 @@ module _ (key rest bytes : List ℕ) (k : KeyFirst key rest bytes) where
     spelled = ap (λ (l : List ℕ). space ∷ l) (append-assoc key (spaced keys) (closing ∷ end) ∙ ap (λ (l : List ℕ). key ++ l) (a .spelled)) ∙ k .spelled;
   }
 
-  pub one-key-less : (keys : List (List ℕ)) (end : List ℕ) → KeysFirst keys end bytes → (others : List (List ℕ)) × (keys ≡ key ∷ others) × KeysFirst others end rest
+  pub one-key-less : (keys : List (List ℕ)) (end : List ℕ) → KeysFirst keys end bytes
+      → (others : List (List ℕ)) × (keys ≡ key ∷ others) × KeysFirst others end rest
   unfolding allRuns spaced
   one-key-less [] end a = absurd (32-not-41 (head-eq-of-cons-eq (k .spelled ∙ sym (a .spelled))))
     where
@@ -176,8 +178,11 @@ module _ (at : ℕ) (bytes : List ℕ) (p : Passed at bytes) where
   passed-some (suc n) e d = passed-key n e
 
   pub keys-closed : at < length bytes → getD bytes at 0 ≡ closing → KeysEnds (At (at + 1)) bytes
-  keys-closed h e =
-      (omega (arith, h), p .forth [] (drop (at + 1) bytes) (no-more-keys (drop (at + 1) bytes) (drop at bytes) (sym (byte-split bytes at closing e (λ z. omega (arith, z))))))
+  keys-closed h e = (
+    omega (arith, h),
+    p .forth [] (drop (at + 1) bytes)
+        (no-more-keys (drop (at + 1) bytes) (drop at bytes) (sym (byte-split bytes at closing e (λ z. omega (arith, z))))),
+  )
 
   pub keys-broken : at < length bytes → (getD bytes at 0 ≡ closing → ⊥) → keyLength (drop at bytes) ≡ 0 → KeysEnds Nowhere bytes
   keys-broken h d e all rest a = let b = p .back all rest a in go (b .0) (b .1)

@@ -22,7 +22,8 @@ one-run (x ∷ k) [] r [] a b p q e = absurd (cons≢nil e)
 one-run (x ∷ k) [] r (y ∷ s) a b p q e =
     absurd (true≢false (sym (ap isKeyByte (sym (head-eq-of-cons-eq e)) ∙ and-parts (isKeyByte x) (allOf isKeyByte k) a .0) ∙ q))
 one-run (x ∷ k) (y ∷ j) r s a b p q e =
-    let below = one-run k j r s (and-parts (isKeyByte x) (allOf isKeyByte k) a .1) (and-parts (isKeyByte y) (allOf isKeyByte j) b .1) p q (tail-eq-of-cons-eq e) in
+    let below = one-run k j r s (and-parts (isKeyByte x) (allOf isKeyByte k) a .1) (and-parts (isKeyByte y) (allOf isKeyByte j) b .1) p q
+    (tail-eq-of-cons-eq e) in
     (ap₂ (λ (z : ℕ) (l : List ℕ). z ∷ l) (head-eq-of-cons-eq e) (below .0), below .1)
 
 pub run-bytes : (k : List ℕ) → isRun k ≡ true → allOf isKeyByte k ≡ true
@@ -48,7 +49,8 @@ one-keys (k ∷ keys) (j ∷ others) r s bytes a b =
     let p = and-parts (isRun k) (allRuns keys) (a .runs) in
     let q = and-parts (isRun j) (allRuns others) (b .runs) in
     let e = tail-eq-of-cons-eq (a .spelled ∙ sym (b .spelled)) in
-    let h = one-run k j (spaced keys ++ closing ∷ r) (spaced others ++ closing ∷ s) (run-bytes k (p .0)) (run-bytes j (q .0)) (keys-ended keys r) (keys-ended others s)
+    let h = one-run k j (spaced keys ++ closing ∷ r) (spaced others ++ closing ∷ s) (run-bytes k (p .0)) (run-bytes j (q .0))
+    (keys-ended keys r) (keys-ended others s)
     (sym (append-assoc k (spaced keys) (closing ∷ r)) ∙ (e ∙ append-assoc j (spaced others) (closing ∷ s))) in
     let below = one-keys keys others r s (spaced others ++ closing ∷ s) (record { runs = p .1; spelled = h .1 }) (record { runs = q .1; spelled = refl }) in
     (ap₂ (λ (z : List ℕ) (l : List (List ℕ)). z ∷ l) (h .0) (below .0), below .1)

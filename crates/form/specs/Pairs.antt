@@ -46,7 +46,8 @@ module _ (bytes : List ℕ) where
 
         pub no-closing : (getD bytes (n + 1 + m) 0 ≡ closing → ⊥) → PairEnds Nowhere bytes
         no-closing d p rest a =
-            let r = one-form (p .1) (right .1 .0) (closing ∷ rest) (drop m (drop (n + 1) bytes)) (drop (n + 1) bytes) (right-first (p .0) (p .1) rest a) (right .1 .1) .1 in
+            let r = one-form (p .1) (right .1 .0) (closing ∷ rest) (drop m (drop (n + 1) bytes)) (drop (n + 1) bytes)
+            (right-first (p .0) (p .1) rest a) (right .1 .1) .1 in
             d (split-byte bytes (n + 1 + m) closing rest (sym behind ∙ sym r))
 
         pub a-pair : getD bytes (n + 1 + m) 0 ≡ closing → PairEnds (At (n + 1 + m + 1)) bytes
@@ -62,7 +63,8 @@ module _ (bytes : List ℕ) where
                   formed-left = left .1 .1 .formed;
                   formed-right = right .1 .1 .formed;
                   spelled = ap (λ (t : List ℕ). text f ++ space ∷ (text g ++ t)) (sym (behind ∙ s))
-                      ∙ (ap (λ (t : List ℕ). text f ++ space ∷ t) (right .1 .1 .spelled) ∙ (ap (λ (t : List ℕ). text f ++ t) (sym after-space) ∙ left .1 .1 .spelled));
+                      ∙ (ap (λ (t : List ℕ). text f ++ space ∷ t) (right .1 .1 .spelled)
+                      ∙ (ap (λ (t : List ℕ). text f ++ t) (sym after-space) ∙ left .1 .1 .spelled));
                 },
               ),
             )

@@ -28,7 +28,12 @@ one-reading line f g a b = one-form f g [] [] line (at-front line f a) (at-front
 
 -- a form that takes the whole line is its reading, and what stands at the front of a line otherwise is none
 pub whole-line : (line : List ℕ) (n : ℕ) (e : FormEnds (At n) line) → n ≡ length line → Reads line (e .1 .0)
-whole-line line n e h = record { formed = e .1 .1 .formed; spelled = sym (append-nil (text (e .1 .0))) ∙ (ap (λ (l : List ℕ). text (e .1 .0) ++ l) (sym (rw h (drop-length line))) ∙ e .1 .1 .spelled) }
+whole-line line n e h =
+    record {
+      formed = e .1 .1 .formed;
+      spelled =
+          sym (append-nil (text (e .1 .0))) ∙ (ap (λ (l : List ℕ). text (e .1 .0) ++ l) (sym (rw h (drop-length line))) ∙ e .1 .1 .spelled);
+    }
 
 pub part-of-line : (line : List ℕ) (n : ℕ) (e : FormEnds (At n) line) → (n ≡ length line → ⊥) → (f : Form) → Reads line f → ⊥
 part-of-line line n e d f a =

@@ -67,7 +67,8 @@ starts-short (b ∷ w) [] h = refl
 starts-short (b ∷ w) (c ∷ l) h = rw (starts-short w l (omega arith)) (and-false (eqb c b))
 
 module _ (w l : List ℕ) where
-  pub starts-more : (i : ℕ) → i < length w → i < length l → getD l i 0 ≡ getD w i 0 → startsWith (drop i w) (drop i l) ≡ startsWith (drop (i + 1) w) (drop (i + 1) l)
+  pub starts-more : (i : ℕ) → i < length w → i < length l → getD l i 0 ≡ getD w i 0
+      → startsWith (drop i w) (drop i l) ≡ startsWith (drop (i + 1) w) (drop (i + 1) l)
   unfolding startsWith
   starts-more i h k e = rw (add-one i, drop-cons w i 0 h, drop-cons l i 0 k, eq-eqb _ _ e)
 

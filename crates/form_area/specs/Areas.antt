@@ -93,7 +93,8 @@ module _ (runs : List (List ℕ)) where
 
 -- the operands, the left one before the right one
 module _ (verb : Verb) (f g : Form) where
-  pub left-refused-area : (why : Refusal) (a exit : List ℕ) → valued (count.Refused why) a ≡ formArea f → valued (count.Refused why) exit ≡ formArea (pair verb f g)
+  pub left-refused-area : (why : Refusal) (a exit : List ℕ) → valued (count.Refused why) a ≡ formArea f
+      → valued (count.Refused why) exit ≡ formArea (pair verb f g)
   unfolding formArea
   left-refused-area why a exit e =
       let n = ap (λ (r : Answer (List ℕ)). r .number) e in
@@ -131,7 +132,9 @@ module _ (f g : Form) (body : List ℕ) (p : PairFirst f g [] body) where
 
   right-behind : drop (n + 1) body ≡ text g ++ closing ∷ []
   right-behind =
-      sym (drop-drop 1 n body) ∙ ap (λ (l : List ℕ). drop 1 l) (ap (λ (l : List ℕ). drop n l) (sym (p .spelled)) ∙ drop-at (text f) (space ∷ (text g ++ closing ∷ [])) n refl)
+      sym (drop-drop 1 n body)
+      ∙ ap (λ (l : List ℕ). drop 1 l)
+      (ap (λ (l : List ℕ). drop n l) (sym (p .spelled)) ∙ drop-at (text f) (space ∷ (text g ++ closing ∷ [])) n refl)
 
   pub right-part : take (length body - 1 - (n + 1)) (drop (n + 1) body) ≡ text g
   right-part =

@@ -85,4 +85,5 @@ refused-alike Minus a b m k e = rw e
 pub operated-alike : (verb : Verb) (a b m k : List ℕ) → length m ≡ length k → given 0 (operated verb a b m) ≡ given 0 (operated verb a b k)
 operated-alike verb a b m k e =
     same-given 0 (operated verb a b m) (operated verb a b k) (operatedRefusal verb a b k) (operatedEntries verb a b)
-    (subst (λ (n : ℕ). Gives (operated verb a b m) n (operatedEntries verb a b)) (refused-alike verb a b m k e) (operated-gives verb a b m)) (operated-gives verb a b k)
+    (subst (λ (n : ℕ). Gives (operated verb a b m) n (operatedEntries verb a b)) (refused-alike verb a b m k e)
+    (operated-gives verb a b m)) (operated-gives verb a b k)

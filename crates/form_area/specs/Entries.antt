@@ -43,7 +43,8 @@ unfolding keysRefusal
 keys-refusal-append [] runs e = refl
 keys-refusal-append (run ∷ done) runs e = go (keyRefusal (keyOfRun run)) e (keys-refusal-append done runs)
   where
-    go : (n : ℕ) → n else keysRefusal done ≡ 0 → (keysRefusal done ≡ 0 → keysRefusal (done ++ runs) ≡ keysRefusal runs) → n else keysRefusal (done ++ runs) ≡ keysRefusal runs
+    go : (n : ℕ) → n else keysRefusal done ≡ 0 → (keysRefusal done ≡ 0 → keysRefusal (done ++ runs) ≡ keysRefusal runs)
+        → n else keysRefusal (done ++ runs) ≡ keysRefusal runs
     go zero e below = below e
     go (suc n) e below = absurd (omega (arith, e))
 
@@ -189,12 +190,18 @@ module _ (at n : ℕ) (entries body : List ℕ) (b : Begun at n entries body) (h
     coming-part : take (at + r - (at + 1)) (drop (at + 1) body) ≡ coming .run
     coming-part = let f : at + r - (at + 1) ≡ length (coming .run) = omega (arith, coming-length) in rw f (coming .part)
 
-    pub key-begun : (c : Check) (after : List ℕ) → Kept c (take (at + r - (at + 1)) (drop (at + 1) body)) n entries after → c ≡ check.Fine → Begun (at + r) (n + 1) after body
+    pub key-begun : (c : Check) (after : List ℕ) → Kept c (take (at + r - (at + 1)) (drop (at + 1) body)) n entries after → c ≡ check.Fine
+        → Begun (at + r) (n + 1) after body
     key-begun c after k f =
-        let l = subst (λ (x : Check). Kept x (coming .run) n entries after) f (subst (λ (x : List ℕ). Kept c x n entries after) coming-part k) in
-        (b .0, b .1, subst (λ (x : ℕ). Entering (at + x) (n + 1) after body (b .0)) (sym coming-length) (one-entered at n entries body (b .0) (b .2) coming after l))
+        let l = subst (λ (x : Check). Kept x (coming .run) n entries after) f (subst (λ (x : List ℕ). Kept c x n entries after) coming-part k) in (
+          b .0,
+          b .1,
+          subst (λ (x : ℕ). Entering (at + x) (n + 1) after body (b .0)) (sym coming-length)
+              (one-entered at n entries body (b .0) (b .2) coming after l),
+        )
 
-    pub key-refused : (c : Check) (why : Refusal) (after : List ℕ) → Kept c (take (at + r - (at + 1)) (drop (at + 1) body)) n entries after → c ≡ check.Refused why
+    pub key-refused : (c : Check) (why : Refusal) (after : List ℕ)
+        → Kept c (take (at + r - (at + 1)) (drop (at + 1) body)) n entries after → c ≡ check.Refused why
         → (others : List (List ℕ)) → KeysFirst others [] body → Entered (count.Refused why) others after
     key-refused c why after k f =
         let l = subst (λ (x : Check). Kept x (coming .run) n entries after) f (subst (λ (x : List ℕ). Kept c x n entries after) coming-part k) in

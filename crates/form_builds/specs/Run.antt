@@ -26,7 +26,13 @@ unfolding calls size
 calls-count n (tiles runs) = refl
 calls-count n (pair verb f g) =
     let c = call (operation verb (earlier (last n f)) (earlier (last (n + size f) g))) in
-    omega (arith, length-append (calls n f) (calls (n + size f) g ++ (c ∷ [])), length-append (calls (n + size f) g) (c ∷ []), calls-count n f, calls-count (n + size f) g)
+    omega (
+      arith,
+      length-append (calls n f) (calls (n + size f) g ++ (c ∷ [])),
+      length-append (calls (n + size f) g) (c ∷ []),
+      calls-count n f,
+      calls-count (n + size f) g,
+    )
 
 last-within : (n : ℕ) (f : Form) → last n f < n + size f
 unfolding last size

@@ -36,7 +36,8 @@ operated-set Both a b = refl
 operated-set Minus a b = refl
 
 settled-pair : (verb : Verb) (S T : ℕ → ℕ → Bool)
-    → settledEntries (λ X Y. kept-by verb (groundOf (settledEntries S) X Y) (groundOf (settledEntries T) X Y)) ≡ settledEntries (λ X Y. kept-by verb (S X Y) (T X Y))
+    → settledEntries (λ X Y. kept-by verb (groundOf (settledEntries S) X Y) (groundOf (settledEntries T) X Y))
+    ≡ settledEntries (λ X Y. kept-by verb (S X Y) (T X Y))
 settled-pair verb S T = settled-same _ _ (λ X Y i j. ap₂ (kept-by verb) (settled-ground S X Y i j) (settled-ground T X Y i j))
 
 placed : (list memory : List ℕ) → placesRefusal list memory ≡ 0 → listRefusal list ≡ 0

@@ -51,7 +51,8 @@ given-number refusal n r items g h k =
 key-number : (key : List ℕ) → IsNumber (keyRefusal key)
 unfolding keyRefusal
 key-number key =
-    else-number (4 when ltb maxZoom (length key)) (5 when not (allDigits key)) (when-number 4 (ltb maxZoom (length key)) (omega arith)) (when-number 5 (not (allDigits key)) (omega arith))
+    else-number (4 when ltb maxZoom (length key)) (5 when not (allDigits key)) (when-number 4 (ltb maxZoom (length key)) (omega arith))
+    (when-number 5 (not (allDigits key)) (omega arith))
 
 keys-number : (runs : List (List ℕ)) → IsNumber (keysRefusal runs)
 unfolding keysRefusal

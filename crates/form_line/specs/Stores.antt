@@ -82,7 +82,8 @@ byte-stored text at i {before} {between} h s =
     let t = stored-behind s (one-stored (getD text i 0) (at + i) between) in
     record { behind = omega (arith, length-take-le (i + 1) text (omega arith)); memory = rw (add-one i, take-suc text i 0 h) (t .memory) }
 
-pub stored-all : (text : List ℕ) {at end : ℕ} (i : ℕ) {before after : List ℕ} → i ≡ length text → Stored (take i text) at end before after → Stored text at end before after
+pub stored-all : (text : List ℕ) {at end : ℕ} (i : ℕ) {before after : List ℕ} → i ≡ length text → Stored (take i text) at end before after
+    → Stored text at end before after
 stored-all text i e s = stored-same (rw (e, take-length text)) s
 
 -- a call that stored its text from the front on

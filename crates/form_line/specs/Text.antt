@@ -72,7 +72,8 @@ keys-append : (a b : List ℕ) → keysText (a ++ b) ≡ keysText a ++ keysText 
 keys-append a b = ap spaced (map-append entryShown a b) ∙ spaced-append (map entryShown a) (map entryShown b)
 
 -- one key more
-pub keys-more : (list : List ℕ) (i : ℕ) → i < length list → keysText (take (i + 1) list) ≡ (keysText (take i list) ++ (space ∷ [])) ++ entryShown (getD list i 0)
+pub keys-more : (list : List ℕ) (i : ℕ) → i < length list
+    → keysText (take (i + 1) list) ≡ (keysText (take i list) ++ (space ∷ [])) ++ entryShown (getD list i 0)
 unfolding spaced
 keys-more list i h =
     rw (add-one i, take-suc list i 0 h, keys-append (take i list) (getD list i 0 ∷ []), append-nil (entryShown (getD list i 0)))

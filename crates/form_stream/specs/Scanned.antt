@@ -75,7 +75,8 @@ line-printed s h k =
     let text = reply (lineOf s) in
     let behind = drop (s .filled + length text) (s .out) in
     rw (sets-eq text (s .out) (s .filled) k)
-    (take-at (printedBy s ++ text) behind (s .filled + length text) (omega (arith, length-append (printedBy s) text, length-take-le (s .filled) (s .out) (h .room))))
+    (take-at (printedBy s ++ text) behind (s .filled + length text)
+    (omega (arith, length-append (printedBy s) text, length-take-le (s .filled) (s .out) (h .room))))
 
 -- how a scan ends that starts at s
 pub record Scanned (bytes : List ℕ) (s r : Scan) : Type 0 where
@@ -143,7 +144,8 @@ module _ (b : ℕ) (rest : List ℕ) (s r : Scan) (h : Ready s) where
     full = λ l. f .full (omega (arith, l));
   }
 
-one-scanned : (b : ℕ) (rest : List ℕ) (s : Scan) → Ready s → Scanned rest (byteIn b s) (scan rest (byteIn b s)) → (Fits s → Scanned rest (lineIn s) (scan rest (lineIn s)))
+one-scanned : (b : ℕ) (rest : List ℕ) (s : Scan) → Ready s → Scanned rest (byteIn b s) (scan rest (byteIn b s))
+    → (Fits s → Scanned rest (lineIn s) (scan rest (lineIn s)))
     → Scanned (b ∷ rest) s (cond (eqb b newline) (cond (isFull s) s (scan rest (lineIn s))) (scan rest (byteIn b s)))
 one-scanned b rest s h byte line = pick (eqb b newline) (isFull s) refl refl
   where
@@ -213,7 +215,8 @@ feeds chunk at len line before h = from (feedOf chunk at len line before) (scann
     from r f =
         let left : drop (f .taken) (drop at chunk) ≡ drop (r .next) chunk = drop-drop (f .taken) at chunk ∙ ap (λ (n : ℕ). drop n chunk) (sym (f .next)) in
         let answers : ended (take len line) (drop at chunk) ≡ printedBy r ++ ended (lineOf r) (drop (r .next) chunk) =
-        ap (λ (l : List ℕ). ended l (drop at chunk)) (sym (take-kept len line h)) ∙ (f .answers ∙ ap (λ (l : List ℕ). printedBy r ++ ended (lineOf r) l) left) in
+        ap (λ (l : List ℕ). ended l (drop at chunk)) (sym (take-kept len line h))
+        ∙ (f .answers ∙ ap (λ (l : List ℕ). printedBy r ++ ended (lineOf r) l) left) in
         let so-far : take (suc maxLine) (soFar (take len line) (drop at chunk)) ≡ take (suc maxLine) (soFar (lineOf r) (drop (r .next) chunk)) =
         ap (λ (l : List ℕ). take (suc maxLine) (soFar l (drop at chunk))) (sym (take-kept len line h))
         ∙ (f .line ∙ ap (λ (l : List ℕ). take (suc maxLine) (soFar (lineOf r) l)) left) in

@@ -27,7 +27,8 @@ use Rattle.form_stream.specs.declared.Feeding.{Feeding}
 
 -- the bytes of a chunk from a place on, up to the end of a line or of the chunk: the scan goes on from there as it would have gone
 pub record Takes (chunk : List ℕ) (from : ℕ) (line : List ℕ) (len : ℕ) (after : List ℕ) (r : Feeding) : Type 0 where
-  pub same : (filled : ℕ) (out : List ℕ) → scan (drop from chunk) (scanAt from len filled line out) ≡ scan (drop (r .at) chunk) (scanAt (r .at) (r .len) filled after out)
+  pub same : (filled : ℕ) (out : List ℕ)
+      → scan (drop from chunk) (scanAt from len filled line out) ≡ scan (drop (r .at) chunk) (scanAt (r .at) (r .len) filled after out)
   pub onward : from ≤ r .at
   pub within : r .len ≤ length after
 
@@ -39,12 +40,15 @@ pub none-taken : (chunk : List ℕ) (from : ℕ) (line : List ℕ) (len : ℕ) �
 none-taken chunk from line len h = record { same = λ filled out. refl; onward = omega arith; within = h }
 
 byte-goes-in : (chunk line : List ℕ) (i n filled : ℕ) (out : List ℕ) → i < length chunk → (getD chunk i 0 ≡ newline → ⊥)
-    → scan (drop i chunk) (scanAt i n filled line out) ≡ scan (drop (i + 1) chunk) (scanAt (i + 1) (min (suc n) (suc maxLine)) filled (set line n (getD chunk i 0)) out)
+    → scan (drop i chunk) (scanAt i n filled line out)
+    ≡ scan (drop (i + 1) chunk) (scanAt (i + 1) (min (suc n) (suc maxLine)) filled (set line n (getD chunk i 0)) out)
 unfolding scan
 byte-goes-in chunk line i n filled out h d = rw (add-one i, drop-cons chunk i 0 h, ne-eqb _ _ d)
 
-pub byte-taken : (chunk : List ℕ) (from : ℕ) (line : List ℕ) (len i n m : ℕ) (between after : List ℕ) → Takes chunk from line len between (record { at = i; len = n })
-    → length between ≡ suc maxLine → i < length chunk → (getD chunk i 0 ≡ newline → ⊥) → (m ≡ min (suc n) (suc maxLine)) × (after ≡ set between n (getD chunk i 0))
+pub byte-taken : (chunk : List ℕ) (from : ℕ) (line : List ℕ) (len i n m : ℕ) (between after : List ℕ)
+    → Takes chunk from line len between (record { at = i; len = n })
+    → length between ≡ suc maxLine → i < length chunk → (getD chunk i 0 ≡ newline → ⊥)
+    → (m ≡ min (suc n) (suc maxLine)) × (after ≡ set between n (getD chunk i 0))
     → Takes chunk from line len after (record { at = i + 1; len = m })
 byte-taken chunk from line len i n m between after t l h d k = record {
   same = λ filled out. t .same filled out ∙ rw (k .0, k .1) (byte-goes-in chunk between i n filled out h d);
@@ -55,7 +59,8 @@ byte-taken chunk from line len i n m between after t l h d k = record {
 -- a newline: its answer is written, or the scan ends
 module _ (chunk : List ℕ) (i : ℕ) (h : i < length chunk) (e : getD chunk i 0 ≡ newline) (n filled : ℕ) (line out : List ℕ) where
   line-goes-in : filled + length (reply (take n line)) ≤ length out
-      → scan (drop i chunk) (scanAt i n filled line out) ≡ scan (drop (i + 1) chunk) (scanAt (i + 1) 0 (filled + length (reply (take n line))) line (sets out filled (reply (take n line))))
+      → scan (drop i chunk) (scanAt i n filled line out)
+      ≡ scan (drop (i + 1) chunk) (scanAt (i + 1) 0 (filled + length (reply (take n line))) line (sets out filled (reply (take n line))))
   unfolding scan
   line-goes-in k = rw (add-one i, drop-cons chunk i 0 h, e, le-ltb (length out) (filled + length (reply (take n line))) k)
 
@@ -94,14 +99,16 @@ module _ (chunk : List ℕ) (start : Scan) (i held filled : ℕ) (between out : 
       ap length (part-all part) ∙ omega (arith, length-append (take filled out) part, length-take-le filled out (f .room), f .room, h)
 
   -- no answer was written to it
-  pub goes-no-further : i < length chunk → getD chunk i 0 ≡ newline → (part : List ℕ) (why : Refusal) → left (Refused why) part ≡ written 0 (reply (take held between)) (partFrom filled out)
+  pub goes-no-further : i < length chunk → getD chunk i 0 ≡ newline → (part : List ℕ) (why : Refusal)
+      → left (Refused why) part ≡ written 0 (reply (take held between)) (partFrom filled out)
       → scanAt i held filled between (withPart filled out part) ≡ scan (drop (start .next) chunk) start
   goes-no-further h e part why w =
       let text = reply (take held between) in
       let short = written-not text (partFrom filled out) part refl why w in
       let fits : length (partFrom filled out) ≡ length out - filled = ap length (rest-part out filled) ∙ length-drop filled out in
       let back : withPart filled out part ≡ out =
-      part-all part ∙ (ap (λ (l : List ℕ). take filled out ++ l) (refused-kept text (partFrom filled out) part refl why w ∙ rest-part out filled) ∙ take-append-drop filled out) in
+      part-all part ∙ (ap (λ (l : List ℕ). take filled out ++ l)
+      (refused-kept text (partFrom filled out) part refl why w ∙ rest-part out filled) ∙ take-append-drop filled out) in
       rw back (sym (f .same ∙ line-stays-out chunk i h e held filled between out (omega (arith, short, fits, f .room))))
 
   -- the answer of a line that has ended was
@@ -162,10 +169,12 @@ module _ (line memory : List ℕ) where
         written-done (P ++ (newline ∷ [])) memory (set (part ++ drop k memory) n newline) refl (omega (arith, long, few, w .0)) (omega (arith, long))
         (after ∙ rw long (sym (append-assoc P (newline ∷ []) (drop (suc n) memory))))
 
-    pub no-answer : (why : Refusal) → left (Refused why) part ≡ lineWritten line (take k memory) → left (Refused Memory) (part ++ drop k memory) ≡ written 0 (reply line) memory
+    pub no-answer : (why : Refusal) → left (Refused why) part ≡ lineWritten line (take k memory)
+        → left (Refused Memory) (part ++ drop k memory) ≡ written 0 (reply line) memory
     no-answer why e =
         let P = printed (lineArea line) in
         let short = written-not P (take k memory) part refl why e in
         let t = length-take-le k memory (omega arith) in
-        let same : part ++ drop k memory ≡ memory = ap (λ (x : List ℕ). x ++ drop k memory) (refused-kept P (take k memory) part refl why e) ∙ take-append-drop k memory in
+        let same : part ++ drop k memory ≡ memory =
+        ap (λ (x : List ℕ). x ++ drop k memory) (refused-kept P (take k memory) part refl why e) ∙ take-append-drop k memory in
         rw same (written-short (reply line) memory refl (omega (arith, short, t, h, reply-long line)))

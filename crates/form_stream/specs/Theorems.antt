@@ -47,7 +47,8 @@ a-line line rest h = line-goes-on [] line (newline ∷ rest) h
 pub a-last-line : (line : List ℕ) → IsLine line → 0 < length line → said [] line ≡ said [] (line ++ newline ∷ [])
 unfolding said
 a-last-line line h k =
-    ap (λ (l : List ℕ). said [] l) (sym (append-nil line)) ∙ (line-goes-on [] line [] h ∙ (last-replied line k ∙ sym (a-line line [] h ∙ append-nil (reply line))))
+    ap (λ (l : List ℕ). said [] l) (sym (append-nil line))
+    ∙ (line-goes-on [] line [] h ∙ (last-replied line k ∙ sym (a-line line [] h ∙ append-nil (reply line))))
 
 -- Calls of `feed` and a last one of `finish`: the line so far, the input that is still to come, and all that the calls hand out to be printed. Where the
 -- input is cut into chunks, and whether what a call leaves of its chunk comes again by itself or in another one, is free. So is the memory for the
@@ -58,7 +59,8 @@ pub data Prints : List ℕ → List ℕ → List ℕ → Type 0 where
       → Prints (lineOf (feedOf chunk at len line out)) (drop (feedOf chunk at len line out .next) chunk ++ rest) printed
       → Prints (take len line) (drop at chunk ++ rest) (printedBy (feedOf chunk at len line out) ++ printed)
 
-finish-prints : (len n : ℕ) (line before out : List ℕ) → left (Counted n) out ≡ written 0 (said (take len line) []) before → take n out ≡ said (take len line) []
+finish-prints : (len n : ℕ) (line before out : List ℕ) → left (Counted n) out ≡ written 0 (said (take len line) []) before
+    → take n out ≡ said (take len line) []
 finish-prints len n line before out f =
     let last = said (take len line) [] in
     let w = written-counted last before out refl f in
@@ -82,7 +84,8 @@ pub data Turns (chunk : List ℕ) : ℕ → List ℕ → List ℕ → List ℕ �
 -- the calls over all chunks, and the last one
 pub data Runs : List ℕ → List (List ℕ) → List ℕ → Type 0 where
   no-more : (len n : ℕ) (line before out : List ℕ) → left (Counted n) out ≡ written 0 (said (take len line) []) before → Runs (take len line) [] (take n out)
-  one-chunk : {chunk line last printed more : List ℕ} {chunks : List (List ℕ)} → Turns chunk 0 line printed last → Runs last chunks more → Runs line (chunk ∷ chunks) (printed ++ more)
+  one-chunk : {chunk line last printed more : List ℕ} {chunks : List (List ℕ)} → Turns chunk 0 line printed last → Runs last chunks more
+      → Runs line (chunk ∷ chunks) (printed ++ more)
 
 abbrev pub joined : List (List ℕ) → List ℕ
 joined [] = []
@@ -137,7 +140,8 @@ one-more-turn chunk at len line out h more = pick (decLe (length chunk) at)
           turns = turn at len line out (u .printed) (take (u .len) (u .memory)) h (u .turns);
         }
 
-some-turns : (n : ℕ) (chunk : List ℕ) (at len : ℕ) (line out : List ℕ) → length line ≡ suc maxLine → longest < length out → length chunk ≤ at + n → Used chunk at (take len line)
+some-turns : (n : ℕ) (chunk : List ℕ) (at len : ℕ) (line out : List ℕ) → length line ≡ suc maxLine → longest < length out
+    → length chunk ≤ at + n → Used chunk at (take len line)
 some-turns zero chunk at len line out h k l = no-more-turns chunk at len line h (omega (arith, l))
 some-turns (suc n) chunk at len line out h k l =
     let r = feedOf chunk at len line out in

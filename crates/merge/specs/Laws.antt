@@ -115,8 +115,11 @@ simplified-v1-worked work m keys after count e s p = rw e (record { size = s; li
 -- a call's answer without what it says of change
 pub counted-left : (r : MergeAnswer) (c : Count) (work : Work) (list : List ℕ) (m : ℕ) (memory after : List ℕ) → countCase c ≡ countOf r
     → mergedLeft r after ≡ workOf work list m memory
-    → left c after ≡ listAnswer (placesRefusal list memory) 0 (length (entriesInOrder (workSet work m (listed list)))) list (entriesInOrder (workSet work m (listed list))) memory
-counted-left r c work list m memory after e f = ap (λ (a : Answer ℕ). record { number = a .number; value = a .value; memory = after }) e ∙ (ap less f ∙ pick (placesRefusal list memory))
+    → left c after ≡ listAnswer (placesRefusal list memory) 0 (length (entriesInOrder (workSet work m (listed list)))) list
+    (entriesInOrder (workSet work m (listed list))) memory
+counted-left r c work list m memory after e f =
+    ap (λ (a : Answer ℕ). record { number = a .number; value = a .value; memory = after }) e
+    ∙ (ap less f ∙ pick (placesRefusal list memory))
   where
     less : Lent Merged → Lent ℕ
     less a = record { number = a .number; value = a .value .count; memory = a .memory }

@@ -21,7 +21,8 @@ use Rattle.tile_set.specs.InOrder.{Ordered, in-order-of, in-order-in, in-order-
 use Rattle.tile_set.specs.Merged.{Within, is-false, bool-ext, merged-within, passes-within}
 use Rattle.tile_set.specs.Set.{inOrder, joins, whole, merged, uncovered, simplified, simplifiedV1}
 use Rattle.tile_set.specs.Simplified.{simplified-within}
-use Rattle.tile_set.specs.Theorems.{Covered, merge-keeps-ground, simplify-keeps-ground, simplify-still, simplify-v1-keeps-ground, simplify-v1-still, merge-changes, merge-takes, settled-at-0}
+use Rattle.tile_set.specs.Theorems.{Covered, merge-keeps-ground, simplify-keeps-ground, simplify-still, simplify-v1-keeps-ground}
+use Rattle.tile_set.specs.Theorems.{simplify-v1-still, merge-changes, merge-takes, settled-at-0}
 use Rattle.tile_set.specs.Uncovered.{uncovered-within}
 use Rattle.merge.specs.Laws.{joins-in}
 use Rattle.merge.specs.Merge.{mergeChanges}
@@ -46,7 +47,8 @@ an-answer-names-its-set S w = λ i t. equal t i
     into : (t : Tile) → S t ≡ true → listed (entriesInOrder S) t ≡ true
     into t e =
         let m = in-order-in maxZoom S (w t e) e in
-        names entryTile (entriesInOrder S) (entryOf (t .x) (t .y) (t .z)) t (into-map (λ (t : Tile). entryOf (t .x) (t .y) (t .z)) (inOrder maxZoom S) m) (back t m)
+        names entryTile (entriesInOrder S) (entryOf (t .x) (t .y) (t .z)) t
+        (into-map (λ (t : Tile). entryOf (t .x) (t .y) (t .z)) (inOrder maxZoom S) m) (back t m)
 
     equal : (t : Tile) → listed (entriesInOrder S) t ≡ S t
     equal t = bool-ext (listed (entriesInOrder S) t) (S t) (out t) (into t)

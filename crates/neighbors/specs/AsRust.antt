@@ -87,15 +87,19 @@ module _ (x y z : ℕ) where
   arm-struck true p false q =
       let e = eqb-true x 0 p in
       let f = eqb-false y 0 q in
-      square (no-column 1 (omega arith)) (near-at 3 x (y - 1) (omega arith) (omega arith)) (no-column 0 (omega arith)) (near-at 6 (x + 1) (y - 1) (omega arith) (omega arith)) (no-column 2 (omega arith))
+      square (no-column 1 (omega arith)) (near-at 3 x (y - 1) (omega arith) (omega arith)) (no-column 0 (omega arith))
+      (near-at 6 (x + 1) (y - 1) (omega arith) (omega arith)) (no-column 2 (omega arith))
   arm-struck false p true q =
       let e = eqb-false x 0 p in
       let f = eqb-true y 0 q in
-      square (near-at 1 (x - 1) y (omega arith) (omega arith)) (no-row 3 (omega arith)) (no-row 0 (omega arith)) (no-row 6 (omega arith)) (near-at 2 (x - 1) (y + 1) (omega arith) (omega arith))
+      square (near-at 1 (x - 1) y (omega arith) (omega arith)) (no-row 3 (omega arith)) (no-row 0 (omega arith)) (no-row 6 (omega arith))
+      (near-at 2 (x - 1) (y + 1) (omega arith) (omega arith))
   arm-struck false p false q =
       let e = eqb-false x 0 p in
       let f = eqb-false y 0 q in
-      square (near-at 1 (x - 1) y (omega arith) (omega arith)) (near-at 3 x (y - 1) (omega arith) (omega arith)) (near-at 0 (x - 1) (y - 1) (omega arith) (omega arith)) (near-at 6 (x + 1) (y - 1) (omega arith) (omega arith)) (near-at 2 (x - 1) (y + 1) (omega arith) (omega arith))
+      square (near-at 1 (x - 1) y (omega arith) (omega arith)) (near-at 3 x (y - 1) (omega arith) (omega arith))
+      (near-at 0 (x - 1) (y - 1) (omega arith) (omega arith)) (near-at 6 (x + 1) (y - 1) (omega arith) (omega arith))
+      (near-at 2 (x - 1) (y + 1) (omega arith) (omega arith))
 
   -- away from the right and bottom edges an arm's tiles are on the map
   pub arm-within : (a b : Bool) → x < 2 ^ z - 1 → y < 2 ^ z - 1 → Within (tilesAt (neighborsArm (armBy a b)) x y z)
@@ -171,7 +175,9 @@ wrapped-row : {d : ℤ} {s : ℕ} → Means d s → (y side : ℕ) (t : ℕ → 
     → cond (ltZ (pos y +ℤ d) (pos 0) || leZ (pos side) (pos y +ℤ d)) [] (t (asU32 (pos y +ℤ d)) ∷ []) ≡ cond (inside side y s) (t (y + s - 1) ∷ []) []
 wrapped-row {d} {s} p y side t b = pick (decLt 0 (y + s))
   where
-    pick : Dec (0 < y + s) → cond (ltZ (pos y +ℤ d) (pos 0) || leZ (pos side) (pos y +ℤ d)) [] (t (asU32 (pos y +ℤ d)) ∷ []) ≡ cond (inside side y s) (t (y + s - 1) ∷ []) []
+    pick : Dec (0 < y + s)
+        → cond (ltZ (pos y +ℤ d) (pos 0) || leZ (pos side) (pos y +ℤ d)) [] (t (asU32 (pos y +ℤ d)) ∷ [])
+        ≡ cond (inside side y s) (t (y + s - 1) ∷ []) []
     pick (yes k) =
         let e : y + s ≡ y + s - 1 + 1 = omega arith in
         rw (signed-sum p y k, inside-is side y s (y + s - 1) e) (row-kept side (y + s - 1) t b)

@@ -52,7 +52,12 @@ found wrap x y z k = gather (nearOf wrap x y z) (take k (orderOf wrap))
 pub found-more : (wrap : Bool) (x y z k : ℕ) → k < 8 → found wrap x y z (k + 1) ≡ found wrap x y z k ++ nearOf wrap x y z (getD (orderOf wrap) k 0)
 unfolding gather
 found-more wrap x y z k h =
-    rw (add-one k, take-suc (orderOf wrap) k 0 (rw (eight wrap) h), gather-append (nearOf wrap x y z) (take k (orderOf wrap)) (getD (orderOf wrap) k 0 ∷ []), append-nil)
+    rw (
+      add-one k,
+      take-suc (orderOf wrap) k 0 (rw (eight wrap) h),
+      gather-append (nearOf wrap x y z) (take k (orderOf wrap)) (getD (orderOf wrap) k 0 ∷ []),
+      append-nil,
+    )
 
 pub found-all : (wrap : Bool) (x y z : ℕ) → found wrap x y z 8 ≡ gather (nearOf wrap x y z) (orderOf wrap)
 found-all wrap x y z = ap (λ (n : ℕ). found wrap x y z n) (sym (eight wrap)) ∙ ap (gather (nearOf wrap x y z)) (take-length (orderOf wrap))
@@ -61,10 +66,12 @@ found-all wrap x y z = ap (λ (n : ℕ). found wrap x y z n) (sym (eight wrap)) 
 pub found-within : (wrap : Bool) (x y z k : ℕ) → length (found wrap x y z k) ≤ length (gather (nearOf wrap x y z) (orderOf wrap))
 found-within wrap x y z k =
     let f = nearOf wrap x y z in
-    let e = ap (λ (l : List Tile). length l) (sym (gather-append f (take k (orderOf wrap)) (drop k (orderOf wrap))) ∙ ap (gather f) (take-append-drop k (orderOf wrap))) in
+    let e = ap (λ (l : List Tile). length l)
+    (sym (gather-append f (take k (orderOf wrap)) (drop k (orderOf wrap))) ∙ ap (gather f) (take-append-drop k (orderOf wrap))) in
     omega (arith, e, length-append (gather f (take k (orderOf wrap))) (gather f (drop k (orderOf wrap))))
 
-pub count-more : (wrap : Bool) (x y z k n : ℕ) (spot : Spot) → k < 8 → n ≡ length (found wrap x y z k) → spotTiles z spot ≡ nearOf wrap x y z (getD (orderOf wrap) k 0)
+pub count-more : (wrap : Bool) (x y z k n : ℕ) (spot : Spot) → k < 8 → n ≡ length (found wrap x y z k)
+    → spotTiles z spot ≡ nearOf wrap x y z (getD (orderOf wrap) k 0)
     → n + length (spotTiles z spot) ≡ length (found wrap x y z (k + 1))
 count-more wrap x y z k n spot h e f = rw (found-more wrap x y z k h, length-append, ← f, e)
 

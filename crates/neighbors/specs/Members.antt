@@ -2,7 +2,8 @@
 use mathlib.Core.Path.{_≡_, refl, sym, ap, _∙_}
 use mathlib.Core.Bool.{Bool, true, false, cond, not, _&&_, _||_}
 use mathlib.Core.Logic.{_⊎_, inl, inr}
-use mathlib.Core.List.{List, [], _∷_, List·Memᴰ, List·Memᴰ·head, List·Memᴰ·tail, List·Memᴰ·not-nil, List·Memᴰ·cases-cons, List·Memᴰ·eq-of-singleton, List·Nodup, Pairwise·nil}
+use mathlib.Core.List.{List, [], _∷_, List·Memᴰ, List·Memᴰ·head, List·Memᴰ·tail, List·Memᴰ·not-nil, List·Memᴰ·cases-cons}
+use mathlib.Core.List.{List·Memᴰ·eq-of-singleton, List·Nodup, Pairwise·nil}
 use Prim.Native.Nat.{ℕ, zero, suc, _+_, _-_, _*_, _/_, _%_, _^_, _≤_, _<_}
 use native.Mathlib.Nat.{add-mod-right, mod-add-mod, mod-eq-of-lt}
 use native.Mathlib.Omega.{arith}
@@ -153,7 +154,8 @@ distinct (a ∷ l) = not (holds a l) && distinct l
 distinct-once : (l : List ℕ) → distinct l ≡ true → List·Nodup l
 unfolding distinct
 distinct-once [] e = Pairwise·nil
-distinct-once (a ∷ l) e = let p = and-parts (not (holds a l)) (distinct l) e in once-more (λ m. clash (holds a l) (mem-holds l m) (p .0)) (distinct-once l (p .1))
+distinct-once (a ∷ l) e = let p = and-parts (not (holds a l)) (distinct l) e in
+    once-more (λ m. clash (holds a l) (mem-holds l m) (p .0)) (distinct-once l (p .1))
   where
     clash : (b : Bool) → b ≡ true → not b ≡ true → ⊥
     clash true e f = let z : _≡_ {A = ℕ} 0 1 = cc in omega arith
@@ -174,7 +176,9 @@ near-once false x y z s = one-at-most (inside (2 ^ z) x (s / 3) && inside (2 ^ z
 
 -- a tile tells the place that it is from, so no two places have it
 pub around-once : (wrap : Bool) (x y z : ℕ) → x < 2 ^ z → 4 ≤ 2 ^ z → List·Nodup (gather (nearOf wrap x y z) (orderOf wrap))
-around-once wrap x y z h f = once-gather (nearOf wrap x y z) (orderOf wrap) (order-once wrap) (near-once wrap x y z) (λ t q r k m i j. sym (place t q k i) ∙ place t r m j)
+around-once wrap x y z h f =
+    once-gather (nearOf wrap x y z) (orderOf wrap) (order-once wrap) (near-once wrap x y z)
+    (λ t q r k m i j. sym (place t q k i) ∙ place t r m j)
   where
     place : (t : Tile) (s : ℕ) → List·Memᴰ s (orderOf wrap) → List·Memᴰ t (nearOf wrap x y z s) → placeOf wrap x y (2 ^ z) t ≡ s
     place t s k m = place-back wrap x y z s t h f (around-place wrap k .0) m

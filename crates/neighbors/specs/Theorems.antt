@@ -2,7 +2,8 @@
 use mathlib.Core.Path.{_≡_, refl, sym, ap, _∙_}
 use mathlib.Core.Bool.{Bool, true, false, cond, _&&_}
 use mathlib.Core.Logic.{_↔_, _⊎_, inl, inr}
-use mathlib.Core.List.{[], _∷_, List·Memᴰ, List·Memᴰ·head, List·Memᴰ·tail, List·Memᴰ·not-nil, List·Memᴰ·cases-cons, List·Memᴰ·eq-of-singleton, List·Nodup, Pairwise·nil}
+use mathlib.Core.List.{[], _∷_, List·Memᴰ, List·Memᴰ·head, List·Memᴰ·tail, List·Memᴰ·not-nil, List·Memᴰ·cases-cons}
+use mathlib.Core.List.{List·Memᴰ·eq-of-singleton, List·Nodup, Pairwise·nil}
 use Prim.Native.Nat.{ℕ, zero, suc, _+_, _-_, _*_, _/_, _%_, _^_, _≤_, _<_}
 use native.Mathlib.Nat.{pow-suc}
 use native.Mathlib.Omega.{arith}
@@ -180,7 +181,8 @@ beside-around x y z t = (there, back)
         let c : s / 3 ≡ t .x + 1 - x = omega (arith, b .rows) in
         let r : s % 3 ≡ t .y + 1 - y = omega (arith, b .rows) in
         let p : Placed x y z s t = record { column = omega arith; row = omega arith; zoom = b .zoom; column-small = b .on-map .0; row-small = b .on-map .1 } in
-        into-gather (near x y z) s around (place-around s (omega (arith, b .columns, b .rows)) (λ e. b .another (omega arith) (omega arith))) (placed-near x y z s t p)
+        into-gather (near x y z) s around
+        (place-around s (omega (arith, b .columns, b .rows)) (λ e. b .another (omega arith) (omega arith))) (placed-near x y z s t p)
 
 -- the neighbours of a tile are just the tiles of the map beside it, at every zoom
 pub exactly-the-tiles-beside-it : (x y z : ℕ) (t : Tile) → OnMap x y z → List·Memᴰ t (neighborsOf false x y z) ↔ Beside x y z t

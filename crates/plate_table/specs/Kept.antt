@@ -129,7 +129,8 @@ both-here = one-more tile (one-here .of-map tile (List·Memᴰ·head refl)) refl
     after u e = rw e (by-z (omega arith))
 
     child-here : InFirstColumn (firstChild ∷ [])
-    child-here = one-more firstChild (record { zoom = omega arith; column = omega arith; row = omega arith }) refl (λ u m. absurd (List·Memᴰ·not-nil m)) none-here
+    child-here = one-more firstChild (record { zoom = omega arith; column = omega arith; row = omega arith }) refl
+        (λ u m. absurd (List·Memᴰ·not-nil m)) none-here
 
 of-both : (t : Tile) → List·Memᴰ t both → (t ≡ tile) ⊎ (t ≡ firstChild)
 of-both t m = pick (List·Memᴰ·cases-cons m)

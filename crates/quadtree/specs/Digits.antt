@@ -36,7 +36,8 @@ module _ (w hi lo : ℕ) (h : hi < 2 ^ w) (l : lo < 2 ^ w) where
       let mask : o * 2 ^ (2 * w) + o ≡ (o * p + 0) * p + o = rw d (omega arith) in
       let bare : hi ≡ 0 * p + hi = omega arith in
       let upper : bitOr hi f ≡ hi * p + bitOr hi lo = ap (λ (n : ℕ). bitOr n f) bare ∙ or-block w 0 hi hi lo h l in
-      let both : bitAnd hi o * p + bitAnd (bitOr hi lo) 0 ≡ hi * p + 0 = ap₂ (λ (m n : ℕ). m * p + n) (and-mask hi w ∙ mod-eq-of-lt h) (and-zero-r (bitOr hi lo)) in
+      let both : bitAnd hi o * p + bitAnd (bitOr hi lo) 0 ≡ hi * p + 0 =
+      ap₂ (λ (m n : ℕ). m * p + n) (and-mask hi w ∙ mod-eq-of-lt h) (and-zero-r (bitOr hi lo)) in
       let blocks = and-block w hi o (bitOr hi lo) 0 (or-lt w hi lo h l) (pow-pos w) in
       let kept : bitAnd (bitOr hi f) (o * p + 0) ≡ hi * p + 0 = ap (λ (n : ℕ). bitAnd n (o * p + 0)) upper ∙ (blocks ∙ both) in
       ap₂ bitAnd (ap (bitOr f) shifted ∙ (or-block w hi f lo 0 l (pow-pos w) ∙ ap (λ (n : ℕ). bitOr hi f * p + n) (or-zero-r lo))) mask
@@ -139,7 +140,8 @@ even-groups (suc c) n =
     let f : (2 * evenBits c (n / 4) + n % 2) % 2 ≡ n % 4 % 2 = omega arith in
     rw (e, f)
     (ap (λ (m : ℕ). bitAnd m (groups 1 c * 4 + 1)) (sym (split n 2))
-    ∙ (and-block 2 (n / 4) (groups 1 c) (n % 4) 1 (mod-lt n (pow-pos 2)) (omega arith) ∙ ap₂ (λ (a b : ℕ). a * 4 + b) (even-groups c (n / 4)) (and-mask (n % 4) 1)))
+    ∙ (and-block 2 (n / 4) (groups 1 c) (n % 4) 1 (mod-lt n (pow-pos 2)) (omega arith)
+    ∙ ap₂ (λ (a b : ℕ). a * 4 + b) (even-groups c (n / 4)) (and-mask (n % 4) 1)))
 
 -- the steps of the code
 

@@ -161,7 +161,8 @@ place-small t m =
     let k = maxZoom - t .z in
     let a : t .z + k ≡ maxZoom = omega (arith, m .zoom) in
     let l : 2 * quadOf t + 1 < 4 * 4 ^ t .z = omega (arith, quad-bounds t .1) in
-    let e : 4 * 4 ^ t .z * 4 ^ k ≡ 4 * 4 ^ maxZoom = mul-assoc 4 (4 ^ t .z) (4 ^ k) ∙ ap (λ (n : ℕ). 4 * n) (sym (pow-add 4 (t .z) k) ∙ ap (λ (n : ℕ). 4 ^ n) a) in
+    let e : 4 * 4 ^ t .z * 4 ^ k ≡ 4 * 4 ^ maxZoom =
+    mul-assoc 4 (4 ^ t .z) (4 ^ k) ∙ ap (λ (n : ℕ). 4 * n) (sym (pow-add 4 (t .z) k) ∙ ap (λ (n : ℕ). 4 ^ n) a) in
     omega (arith, mul-lt-mul-of-pos-right l (four-pos k), deepest {z = maxZoom} (omega arith))
 
 pub place-zeros : (t : Tile) → trailingZeros 64 (placeOf t) ≡ 2 * (maxZoom - t .z)

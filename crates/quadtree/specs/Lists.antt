@@ -109,7 +109,8 @@ module _ {f : ℕ → ℕ} {list memory left : List ℕ} {i : ℕ} (m : Mapped f
       let e = length-map list f in
       let l : length (take i (map f list)) ≡ i = length-take-le i (map f list) (omega (arith, m .within)) in
       let z : i + 0 ≡ i = omega arith in
-      ap (λ (s : List ℕ). getD s i 0) (m .written) ∙ (rw (l, z) at (getD-append-add (take i (map f list)) (drop i memory) 0 0) ∙ rw z at (getD-drop i memory 0 0))
+      ap (λ (s : List ℕ). getD s i 0) (m .written)
+      ∙ (rw (l, z) at (getD-append-add (take i (map f list)) (drop i memory) 0 0) ∙ rw z at (getD-drop i memory 0 0))
 
   pub mapped-next : {v : ℕ} → i < length list → v ≡ f (getD list i 0) → Mapped f list memory (i + 1) (set left i v)
   mapped-next {v} h e =

@@ -22,7 +22,8 @@ use Rattle.tile_set.specs.Simplified.{listed}
 use Rattle.sort.specs.At.{in-at, taken-at, at-taken, taken-rising, by-at}
 use Rattle.quadtree.specs.Places.{lowOf, startOf, endOf, low-pos, low-below, held-run, place-held, parent-of-map, IsPlace, tile-place, tiles}
 use Rattle.settle.specs.Settle.{Settles, Popped, Family, Joins, stop, join}
-use Rattle.settle.specs.Stack.{Among, Under, Stack, Onto, stack-none, rise-apart, pop-under, pop-top, join-holds, join-under, join-end, join-top, push, push-under}
+use Rattle.settle.specs.Stack.{Among, Under, Stack, Onto, stack-none, rise-apart, pop-under, pop-top, join-holds, join-under}
+use Rattle.settle.specs.Stack.{join-end, join-top, push, push-under}
 
 pub joins-less : {m c j n k : ℕ} {l : List ℕ} → Joins m l c j n k → c ≤ n
 joins-less (stop f) = omega arith
@@ -171,7 +172,8 @@ module _ (m : ℕ) (l₀ l : List ℕ) (count end i : ℕ) (f : TileNumbers plac
     long = length-set l c j ∙ M .long;
     rest = λ n g. same n (λ u. omega (arith, count-less)) ∙ M .rest n (omega arith);
     each = at-each IsPlace (λ n g. M .each n (omega (arith, joins-less r, q .within))) (done .place);
-    stack = push m S (tiles l) c (placeTile j) (done .top) (tiles (set l c j)) (λ n g. ap placeTile (same n (λ u. omega arith))) (ap placeTile new) (done .none);
+    stack = push m S (tiles l) c (placeTile j) (done .top) (tiles (set l c j)) (λ n g. ap placeTile (same n (λ u. omega arith)))
+        (ap placeTile new) (done .none);
     ends = at-each (λ n. endOf (placeTile n) ≤ getD l i 0 + w) (λ n g. omega (arith, done .top .above n g, ends)) (omega (arith, ends));
     read = read;
     inside = λ n a b g. under (tiles l₀ n) (inr (inside n a b g));
@@ -213,7 +215,8 @@ module _ (m : ℕ) (l₀ l : List ℕ) (count end i : ℕ) (M : Mid m l₀ l cou
   at-named n g = names placeTile (take count l) (getD l n 0) (tiles l n) (at-taken l count fits n g) refl
 
   places : TileNumbers placeOf (take count l)
-  places k s = let a = taken-at l count fits s in let p = M .each (a .0) (a .1) in record { tile = tiles l (a .0); on-map = p .of-map; number = p .again ∙ a .2 }
+  places k s = let a = taken-at l count fits s in let p = M .each (a .0) (a .1) in
+      record { tile = tiles l (a .0); on-map = p .of-map; number = p .again ∙ a .2 }
 
   covers : (s : Tile) → named placeTile l₀ s ≡ true → (r : Tile) × (R r ≡ true) × Holds r s
   covers s e =
@@ -229,7 +232,15 @@ module _ (m : ℕ) (l₀ l : List ℕ) (count end i : ℕ) (M : Mid m l₀ l cou
   ended = record {
     within = fits;
     places = places;
-    rising = taken-rising l count fits (λ a b g k. omega (arith, M .stack .rise a b g k, M .each a (omega arith) .again, M .each b k .again, low-pos (tiles l b), low-pos (tiles l a)));
+    rising = taken-rising l count fits
+        (λ a b g k. omega (
+          arith,
+          M .stack .rise a b g k,
+          M .each a (omega arith) .again,
+          M .each b k .again,
+          low-pos (tiles l b),
+          low-pos (tiles l a),
+        ));
     simplest = record {
       built = λ t e. let a = named-at t e in rw (← a .2) (M .stack .built (a .0) (a .1));
       covers = covers;

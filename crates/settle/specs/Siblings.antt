@@ -10,7 +10,8 @@ use Rattle.constants.specs.Limits.{maxZoom}
 use Rattle.quadtree.specs.Numbers.{quadOf, placeOf, placeTile}
 use Rattle.quadtree.specs.Laws.{place-tile}
 use Rattle.tile.specs.declared.Tile.{Tile}
-use Rattle.quadtree.specs.Places.{valid-tile, map-tile, lowOf, first-place, second-place, third-place, parent-place, fourth-child, child-fourth, fourth-far, parent-of-map, tile-place, tiles}
+use Rattle.quadtree.specs.Places.{valid-tile, map-tile, lowOf, first-place, second-place, third-place, parent-place, fourth-child}
+use Rattle.quadtree.specs.Places.{child-fourth, fourth-far, parent-of-map, tile-place, tiles}
 use Rattle.tile_set.specs.Holds.{valid-parent, valid-child}
 use Rattle.tile_set.specs.Set.{child, parentTile}
 use Rattle.settle.specs.Settle.{Stand, Family}

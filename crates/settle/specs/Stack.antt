@@ -12,7 +12,8 @@ use Rattle.tile.specs.declared.Tile.{Tile}
 use Rattle.tile_set.specs.Holds.{Holds, holds-trans, child-held}
 use Rattle.tile_set.specs.Set.{child}
 use Rattle.tile_set.specs.Simplified.{Built, joined}
-use Rattle.quadtree.specs.Places.{startOf, endOf, low-pos, low-below, Lie, holding, held, before, after, lies, held-run, place-held, low-child, place-child, parent-of-map}
+use Rattle.quadtree.specs.Places.{startOf, endOf, low-pos, low-below, Lie, holding, held, before, after, lies, held-run, place-held}
+use Rattle.quadtree.specs.Places.{low-child, place-child, parent-of-map}
 use Rattle.settle.specs.Settle.{Family}
 
 -- x is one of the first n tiles
@@ -246,7 +247,8 @@ module _ (m : ℕ) (S : Tile → Bool) (T : ℕ → Tile) (n : ℕ) (t : Tile) (
 
               old : Dec (l < n) → ⊥
               old (yes k) =
-                  g .stack .no-four p d (l - 3, omega arith, below 3 (omega arith) three (f .first)) (l - 2, omega arith, below 2 (omega arith) (omega arith) (f .second))
+                  g .stack .no-four p d (l - 3, omega arith, below 3 (omega arith) three (f .first))
+                  (l - 2, omega arith, below 2 (omega arith) (omega arith) (f .second))
                   (l - 1, omega arith, below 1 (omega arith) (omega arith) (f .third)) (l, k, sym (same l k) ∙ f .fourth)
               old (no k) =
                   let e : l ≡ n = omega arith in

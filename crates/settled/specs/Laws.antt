@@ -57,7 +57,8 @@ module _ (list : List ℕ) where
       beside l =
           let s = named-by entryTile list b q in
           let n = not-true (besideAncestor list (entryTile (s .0))) (all-in (λ n. not (besideAncestor list (entryTile n))) list e (s .1)) in
-          let y : besideAncestor list b ≡ true = any-below-in (b .z) (λ s. listed list (ancestor b s)) (a .z) l (sym (ap (listed list) (holder-is-ancestor g)) ∙ p) in
+          let y : besideAncestor list b ≡ true =
+          any-below-in (b .z) (λ s. listed list (ancestor b s)) (a .z) l (sym (ap (listed list) (holder-is-ancestor g)) ∙ p) in
           true≢false (sym y ∙ (sym (ap (besideAncestor list) (s .2)) ∙ n))
 
       pick : Dec (a .z < b .z) → a ≡ b
@@ -114,7 +115,8 @@ places-named list e = sort-named placeTile (map (entryKey true) list) ∙ keys-n
 -- what the code's steps tell: b says whether the list is strictly in order, and the places of its tiles are sorted
 pub not-in-order : (list places : List ℕ) (b : Bool) → b ≡ strictlyInOrder list → not b ≡ true → Tested list places false
 unfolding isSettled
-not-in-order list places b e f = let g = sym e ∙ not-true b f in record { answer = rw g; in-order = λ h. absurd (false≢true h); runs = λ h. absurd (false≢true h) }
+not-in-order list places b e f = let g = sym e ∙ not-true b f in
+    record { answer = rw g; in-order = λ h. absurd (false≢true h); runs = λ h. absurd (false≢true h) }
 
 module _ (list keys places : List ℕ) (e : allOf isEntry list ≡ true) (k : keys ≡ map (entryKey true) list) (s : places ≡ sortN keys) where
   sorted : places ≡ sortN (map (entryKey true) list)

@@ -82,7 +82,11 @@ places-rise (a ∷ l) e o = insert-rising (entryKey true a) (sortN (map (entryKe
         let s = in-map (entryKey true) l (sort-in (map (entryKey true) l) m) in
         let p = entry-map (a ∷ l) e a (List·Memᴰ·head refl) in
         let q = entry-map (a ∷ l) e (s .0) (List·Memᴰ·tail (s .1)) in
-        omega (arith, rank-before (entryTile a) (entryTile (s .0)) p q (parts a l o .0 (s .0) (s .1)), ap rankOf (place-inj (entryTile a) (entryTile (s .0)) p q (s .2)))
+        omega (
+          arith,
+          rank-before (entryTile a) (entryTile (s .0)) p q (parts a l o .0 (s .0) (s .1)),
+          ap rankOf (place-inj (entryTile a) (entryTile (s .0)) p q (s .2)),
+        )
 
 -- the first i ranks rise to `last`
 pub record Risen (list : List ℕ) (last i : ℕ) : Type 0 where

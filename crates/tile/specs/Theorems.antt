@@ -73,7 +73,8 @@ taken-back Stay n end h e = (h, refl, refl)
 taken-back On n end h e = let k = eqb-false (n + 1) end e in (omega arith, ne-eqb (n + 1) 0 (λ f. omega arith), omega arith)
 
 -- a step that is not refused leads to a tile of the map
-pub a-step-stays-on-the-map : (a b : Step) (t : Tile) → stepOf a b t .number ≡ 0 → (s : Tile) × (stepOf a b t ≡ record { number = 0; value = s }) × OnMap (s .x) (s .y) (s .z)
+pub a-step-stays-on-the-map : (a b : Step) (t : Tile) → stepOf a b t .number ≡ 0
+    → (s : Tile) × (stepOf a b t ≡ record { number = 0; value = s }) × OnMap (s .x) (s .y) (s .z)
 a-step-stays-on-the-map a b t e =
     let k = accepted-step a b t e in
     let u = taken-back a (t .x) (2 ^ t .z) (k .0 .column) (k .1) in
@@ -81,7 +82,8 @@ a-step-stays-on-the-map a b t e =
     (tileAt (stepped a (t .x)) (stepped b (t .y)) (t .z), step-taken a b t (k .0) (k .1) (k .2), record { zoom = k .0 .zoom; column = u .0; row = v .0 })
 
 -- and the opposite step leads back: `down` undoes `up`, `right` undoes `left`, and so on
-pub a-step-and-back : (a b : Step) (t : Tile) → stepOf a b t .number ≡ 0 → stepOf (opposite a) (opposite b) (stepOf a b t .value) ≡ record { number = 0; value = t }
+pub a-step-and-back : (a b : Step) (t : Tile) → stepOf a b t .number ≡ 0
+    → stepOf (opposite a) (opposite b) (stepOf a b t .value) ≡ record { number = 0; value = t }
 a-step-and-back a b t e =
     let k = accepted-step a b t e in
     let u = taken-back a (t .x) (2 ^ t .z) (k .0 .column) (k .1) in

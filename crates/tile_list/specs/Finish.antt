@@ -56,7 +56,8 @@ module _ (ts : List Tile) (S : Tile → Bool) (of : (t : Tile) → List·Memᴰ 
   each r m = let s = their r m in record { tile = s .0; on-map = of (s .0) (s .1) .0; number = sym (s .2) }
 
   pub finish-is : finished ts ≡ entriesInOrder S
-  finish-is = ranks-entries ranks ∙ ap entriesOf (in-order-is maxZoom S (map rankTile ranks) (ranks-ordered ranks (once-rising (map rankOf ts)) each) back forth)
+  finish-is = ranks-entries ranks
+      ∙ ap entriesOf (in-order-is maxZoom S (map rankTile ranks) (ranks-ordered ranks (once-rising (map rankOf ts)) each) back forth)
     where
       back : (t : Tile) → List·Memᴰ t (map rankTile ranks) → Valid maxZoom t × (S t ≡ true)
       back t m =
@@ -120,7 +121,8 @@ pub finish-listed : (placed : Bool) (keys part memory : List ℕ) (r : ℕ) (res
     → memory ≡ take r (part ++ rest) ++ replicate (length (part ++ rest) - r) 0 → Listed (named (sortTile placed) keys) memory r
 finish-listed placed keys part memory r rest h k e f = record {
   counted = sym (length-take-le r part k) ∙ ap length items;
-  left = f ∙ (ap (λ (l : List ℕ). l ++ replicate (length (part ++ rest) - r) 0) (take-append-le r part rest k ∙ items) ∙ ap (λ (n : ℕ). entriesInOrder (named (sortTile placed) keys) ++ replicate (n - r) 0) (sym size));
+  left = f ∙ (ap (λ (l : List ℕ). l ++ replicate (length (part ++ rest) - r) 0) (take-append-le r part rest k ∙ items)
+      ∙ ap (λ (n : ℕ). entriesInOrder (named (sortTile placed) keys) ++ replicate (n - r) 0) (sym size));
 }
   where
     items : take r part ≡ entriesInOrder (named (sortTile placed) keys)

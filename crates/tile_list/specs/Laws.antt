@@ -92,5 +92,6 @@ once-numbers f l h n m = h n (once-in l m)
 pub keys-named : (placed : Bool) (list : List ℕ) → allOf isEntry list ≡ true → named (sortTile placed) (map (entryKey placed) list) ≡ listed list
 keys-named placed list e =
     same-named (sortTile placed) entryTile (map (entryKey placed) list) list
-    (λ k m. let s = in-map (entryKey placed) list m in (s .0, s .1, sym (ap (sortTile placed) (s .2) ∙ key-tile placed (entryTile (s .0)) (entry-map list e (s .0) (s .1)))))
+    (λ k m. let s = in-map (entryKey placed) list m in
+    (s .0, s .1, sym (ap (sortTile placed) (s .2) ∙ key-tile placed (entryTile (s .0)) (entry-map list e (s .0) (s .1)))))
     (λ n m. (entryKey placed n, into-map (entryKey placed) list m, key-tile placed (entryTile n) (entry-map list e n m)))

@@ -13,7 +13,8 @@ use Rattle.tile.specs.declared.Tile.{Tile}
 use Rattle.tile_set.specs.Holds.{parent-of-child}
 use Rattle.tile_set.specs.Merged.{is-false, bool-ext, whole-all, joins-when, joined-when, joined-four, joins-joined, joined-joins}
 use Rattle.tile_set.specs.Merged.{merged-cases, merged-kept, merged-joined}
-use Rattle.tile_set.specs.Rust.{sameTile, empty, insert, extend, parent, Filed, fileUnder, file, rustFiled, Merging, mergeGroup, rustMerge, Once, Walk, Keys}
+use Rattle.tile_set.specs.Rust.{sameTile, empty, insert, extend, parent, Filed, fileUnder, file, rustFiled, Merging, mergeGroup}
+use Rattle.tile_set.specs.Rust.{rustMerge, Once, Walk, Keys}
 use Rattle.tile_set.specs.RustParents.{has-parent}
 use Rattle.tile_set.specs.RustSets.{same-tile, tile-same, insert-cases, insert-here, insert-old, extend-old, extend-in, extend-cases}
 use Rattle.tile_set.specs.RustSets.{loop-keeps, after-turn, at-end, same-zoom, four-all, all-four}

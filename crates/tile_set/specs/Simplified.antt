@@ -6,7 +6,8 @@ use Prim.Native.Nat.{ℕ, zero, suc, _≤_, _<_}
 use native.Mathlib.Omega.{arith}
 use Rattle.tile.specs.declared.Tile.{Tile}
 use Rattle.tile_set.specs.Holds.{Holds, holds-trans, holds-antisym, by-quarter, held-by-four}
-use Rattle.tile_set.specs.Merged.{Within, Covers, Apart, bool-ext, covers-trans, joined-when, joined-four, merged-cases, passes-within, passes-covers, passes-apart}
+use Rattle.tile_set.specs.Merged.{Within, Covers, Apart, bool-ext, covers-trans, joined-when, joined-four, merged-cases}
+use Rattle.tile_set.specs.Merged.{passes-within, passes-covers, passes-apart}
 use Rattle.tile_set.specs.Merged.{no-four as passes-no-four}
 use Rattle.tile_set.specs.Set.{child, whole, joined as is-joined, merged, passes, uncovered, simplified}
 use Rattle.tile_set.specs.Uncovered.{uncovered-of, uncovered-covers, uncovered-apart, uncovered-within}

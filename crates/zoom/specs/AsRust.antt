@@ -14,11 +14,13 @@ use Rattle.bits.specs.Powers.{pow-within}
 use Rattle.zoom.specs.Bits.{hasBit, those, setOf, between}
 use Rattle.zoom.specs.Cover.{fromTo}
 use Rattle.zoom.specs.Laws.{set-below, set-with, set-same, set-none, same-bits, those-same, bit-of-set, bit-past, bit-and, bit-half, bit-of-power}
-use Rattle.zoom.specs.Rust.{masked, range, filter, reverseBits, zset2zvec, zset2zvecRev, fold, zvec2zset, zvec2zsetRev, Walk, turn, walk, finished, zoomRanges}
+use Rattle.zoom.specs.Rust.{masked, range, filter, reverseBits, zset2zvec, zset2zvecRev, fold, zvec2zset, zvec2zsetRev, Walk, turn}
+use Rattle.zoom.specs.Rust.{walk, finished, zoomRanges}
 use Rattle.zoom.specs.Listing.{listed-those}
 use Rattle.zoom.specs.Lists.{or-none, zooms-turned, zooms-straight}
 use Rattle.zoom.specs.Runs.{start-zero, starts-here, starts-inside, starts-outside, ends-here, ends-inside, ends-outside, run-ended, run-unstarted}
-use Rattle.zoom.specs.Zooms.{lastZoom, turnBit, downFrom, zoomsOf, zoomsOfRev, listed, anyDeeper, setOfZooms, setOfZoomsRev, rangeOf, firstRun, lastRun, inRun, runStarts, runEnds, runLows, runHighs}
+use Rattle.zoom.specs.Zooms.{lastZoom, turnBit, downFrom, zoomsOf, zoomsOfRev, listed, anyDeeper, setOfZooms, setOfZoomsRev}
+use Rattle.zoom.specs.Zooms.{rangeOf, firstRun, lastRun, inRun, runStarts, runEnds, runLows, runHighs}
 use Rattle.zoom.specs.declared.ZoomRange.{ZoomRange}
 
 -- ---- masks and filters
@@ -57,7 +59,8 @@ unfolding filter
 filter-append test [] m = refl
 filter-append test (a ∷ l) m = rw (filter-append test l m) (pick (test a))
   where
-    pick : (b : Bool) → cond b (a ∷ (filter test l ++ filter test m)) (filter test l ++ filter test m) ≡ cond b (a ∷ filter test l) (filter test l) ++ filter test m
+    pick : (b : Bool) → cond b (a ∷ (filter test l ++ filter test m)) (filter test l ++ filter test m)
+        ≡ cond b (a ∷ filter test l) (filter test l) ++ filter test m
     pick true = refl
     pick false = refl
 
@@ -116,9 +119,11 @@ fold-hits place n w room (z ∷ l) e has =
     let h = room z (ltb-false lastZoom z (d .0)) in
     rw (pow-within (place z) 32 (omega arith), set-with has (place z) n h)
     (fold-hits place n w room l (d .1) (λ i. has i || eqb i (place z))
-    ∙ set-same (λ i. (has i || eqb i (place z)) || hit place l i) (λ i. has i || (eqb i (place z) || hit place l i)) n (λ i k. or-assoc (has i) (eqb i (place z)) (hit place l i)))
+    ∙ set-same (λ i. (has i || eqb i (place z)) || hit place l i) (λ i. has i || (eqb i (place z) || hit place l i)) n
+    (λ i k. or-assoc (has i) (eqb i (place z)) (hit place l i)))
 
-fold-from-none : (place : ℕ → ℕ) (n : ℕ) → n ≤ 32 → ((z : ℕ) → z ≤ lastZoom → place z < n) → (l : List ℕ) → anyDeeper l ≡ false → fold place 0 l ≡ setOf (hit place l) n
+fold-from-none : (place : ℕ → ℕ) (n : ℕ) → n ≤ 32 → ((z : ℕ) → z ≤ lastZoom → place z < n) → (l : List ℕ) → anyDeeper l ≡ false
+    → fold place 0 l ≡ setOf (hit place l) n
 fold-from-none place n w room l e = ap (λ (acc : ℕ). fold place acc l) (sym (set-none (λ i. false) n (λ i k. refl))) ∙ fold-hits place n w room l e (λ i. false)
 
 hit-listed : (l : List ℕ) (i : ℕ) → hit (λ z. z) l i ≡ listed l i

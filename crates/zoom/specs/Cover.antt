@@ -34,7 +34,8 @@ from-to-more : (a b : ℕ) → a ≤ suc b → fromTo a (suc b) ≡ fromTo a b +
 unfolding fromTo
 from-to-more a b h =
     those-with (between a (suc b)) (suc b) (rw (le-leb a (suc b) h, le-leb (suc b) (suc b) (le-refl (suc b))))
-    ∙ ap (λ (l : List ℕ). l ++ (suc b ∷ [])) (those-same (between a (suc b)) (between a b) (suc b) (λ i l. rw (le-leb i (suc b) (omega arith), le-leb i b (omega arith))))
+    ∙ ap (λ (l : List ℕ). l ++ (suc b ∷ []))
+    (those-same (between a (suc b)) (between a b) (suc b) (λ i l. rw (le-leb i (suc b) (omega arith), le-leb i b (omega arith))))
 
 -- a pair more
 spread-with : (s e : List ℕ) (a : ℕ) → length s ≡ length e → spread (s ++ (a ∷ [])) (e ++ (a ∷ [])) ≡ spread s e ++ (a ∷ [])
@@ -49,7 +50,8 @@ spread-longer : (s e : List ℕ) (b : ℕ) → length s ≡ suc (length e) → (
     → spread s (e ++ (suc b ∷ [])) ≡ spread s (e ++ (b ∷ [])) ++ (suc b ∷ [])
 unfolding spread
 spread-longer [] e b h below = absurd (omega arith)
-spread-longer (x ∷ []) [] b h below = rw (from-to-more x b (omega (arith, below 0 (omega arith))), append-nil (fromTo x b ++ (suc b ∷ [])), append-nil (fromTo x b)) refl
+spread-longer (x ∷ []) [] b h below =
+    rw (from-to-more x b (omega (arith, below 0 (omega arith))), append-nil (fromTo x b ++ (suc b ∷ [])), append-nil (fromTo x b)) refl
 spread-longer (x ∷ w ∷ s) [] b h below = absurd (omega arith)
 spread-longer (x ∷ s) (y ∷ e) b h below =
     rw (spread-longer s e b (omega arith) (λ k l. below (suc k) (omega arith))) (sym (append-assoc (fromTo x y) (spread s (e ++ (b ∷ []))) (suc b ∷ [])))
@@ -59,11 +61,13 @@ heldTo : ℕ → ℕ → List ℕ
 heldTo zset n = spread (those (runStarts zset) (suc n)) (those (runEnds zset) n ++ cond (inRun zset n) (n ∷ []) [])
 
 -- the next zoom, by whether it and the one before are in a run
-next : (zset n : ℕ) (a : Bool) → inRun zset n ≡ a → (b : Bool) → inRun zset (suc n) ≡ b → heldTo zset n ≡ those (inRun zset) (suc n) → heldTo zset (suc n) ≡ those (inRun zset) (suc (suc n))
+next : (zset n : ℕ) (a : Bool) → inRun zset n ≡ a → (b : Bool) → inRun zset (suc n) ≡ b → heldTo zset n ≡ those (inRun zset) (suc n)
+    → heldTo zset (suc n) ≡ those (inRun zset) (suc (suc n))
 unfolding heldTo
 next zset n true ea true eb i =
     rw (starts-inside zset n ea, ends-inside zset n eb, eb, those-with (inRun zset) (suc n) eb)
-    (spread-longer (those (runStarts zset) (suc n)) (those (runEnds zset) n) n (open-run zset n ∙ (rw ea (add-one (length (those (runEnds zset) n))))) (those-below (runStarts zset) (suc n))
+    (spread-longer (those (runStarts zset) (suc n)) (those (runEnds zset) n) n
+    (open-run zset n ∙ (rw ea (add-one (length (those (runEnds zset) n))))) (those-below (runStarts zset) (suc n))
     ∙ ap (λ (l : List ℕ). l ++ (suc n ∷ [])) (rw ea at i))
 next zset n true ea false eb i =
     rw (starts-outside zset n eb, ends-here zset n ea eb, eb, those-without (inRun zset) (suc n) eb, append-nil)

@@ -194,7 +194,8 @@ set-of-one z (suc n) h = pick (decLt z n) (set-of-one z n)
   where
     pick : Dec (z < n) → (z < n → setOf (λ i. eqb i z) n ≡ 2 ^ z) → setOf (λ i. eqb i z) n + cond (eqb n z) (2 ^ n) 0 ≡ 2 ^ z
     pick (yes l) rest = rw (rest l, ne-eqb n z (λ e. omega arith)) (add-zero (2 ^ z))
-    pick (no l) rest = let e : n ≡ z = omega arith in rw (e, eq-eqb z z refl, set-none (λ i. eqb i z) z (λ i k. ne-eqb i z (λ d. omega arith))) (zero-add (2 ^ z))
+    pick (no l) rest = let e : n ≡ z = omega arith in
+        rw (e, eq-eqb z z refl, set-none (λ i. eqb i z) z (λ i k. ne-eqb i z (λ d. omega arith))) (zero-add (2 ^ z))
 
 pub bit-of-power : (z i : ℕ) → hasBit (2 ^ z) i ≡ eqb i z
 bit-of-power z i = ap (λ (x : ℕ). hasBit x i) (sym (set-of-one z (suc (z + i)) (omega arith))) ∙ bit-of-set (λ k. eqb k z) (suc (z + i)) i (omega arith)
@@ -202,7 +203,8 @@ bit-of-power z i = ap (λ (x : ℕ). hasBit x i) (sym (set-of-one z (suc (z + i)
 -- a number with one bit more
 pub set-with : (has : ℕ → Bool) (z n : ℕ) → z < n → bitOr (setOf has n) (2 ^ z) ≡ setOf (λ i. has i || eqb i z) n
 set-with has z n h =
-    same-bits (bitOr (setOf has n) (2 ^ z)) (setOf (λ i. has i || eqb i z) n) n (or-lt n (setOf has n) (2 ^ z) (set-below has n) (pow-lt h)) (set-below (λ i. has i || eqb i z) n)
+    same-bits (bitOr (setOf has n) (2 ^ z)) (setOf (λ i. has i || eqb i z) n) n
+    (or-lt n (setOf has n) (2 ^ z) (set-below has n) (pow-lt h)) (set-below (λ i. has i || eqb i z) n)
     (λ i l. bit-or (setOf has n) (2 ^ z) i ∙ (rw (bit-of-set has n i l, bit-of-power z i, bit-of-set (λ i. has i || eqb i z) n i l) refl))
 
 pub set-past : (has : ℕ → Bool) (m n : ℕ) → m ≤ n → ((i : ℕ) → m ≤ i → has i ≡ false) → setOf has n ≡ setOf has m
@@ -215,12 +217,16 @@ unfolding setOf
 span-up a b zero h l = let e : a ≡ 0 = omega arith in rw e
 span-up a b (suc n) h l = pick (decLe a n) (span-up a b n)
   where
-    pick : Dec (a ≤ n) → (a ≤ n → n ≤ suc b → setOf (between a b) n + 2 ^ a ≡ 2 ^ n) → setOf (between a b) n + cond (between a b n) (2 ^ n) 0 + 2 ^ a ≡ 2 ^ suc n
+    pick : Dec (a ≤ n) → (a ≤ n → n ≤ suc b → setOf (between a b) n + 2 ^ a ≡ 2 ^ n)
+        → setOf (between a b) n + cond (between a b n) (2 ^ n) 0 + 2 ^ a ≡ 2 ^ suc n
     pick (yes k) rest = rw (le-leb a n k, le-leb n b (omega arith)) (omega (arith, rest k (omega arith), pow-suc 2 n))
-    pick (no k) rest = let e : a ≡ suc n = omega arith in rw (set-none (between a b) n (λ i j. rw (lt-leb a i (omega arith))), lt-leb a n (omega arith)) (rw e (zero-add (2 ^ suc n)))
+    pick (no k) rest = let e : a ≡ suc n = omega arith in
+        rw (set-none (between a b) n (λ i j. rw (lt-leb a i (omega arith))), lt-leb a n (omega arith)) (rw e (zero-add (2 ^ suc n)))
 
 pub set-of-span : (a b n : ℕ) → a ≤ b → b < n → setOf (between a b) n + 2 ^ a ≡ 2 ^ suc b
-set-of-span a b n h l = rw (set-past (between a b) (suc b) n l (λ i j. rw (lt-leb i b j) (and-false (leb a i)))) (span-up a b (suc b) (omega arith) (le-refl (suc b)))
+set-of-span a b n h l =
+    rw (set-past (between a b) (suc b) n l (λ i j. rw (lt-leb i b j) (and-false (leb a i))))
+    (span-up a b (suc b) (omega arith) (le-refl (suc b)))
 
 pub set-of-empty-span : (a b n : ℕ) → b < a → setOf (between a b) n ≡ 0
 set-of-empty-span a b n h = set-none (between a b) n (λ i l. pick i (decLe a i))
@@ -257,7 +263,8 @@ bit-of-whole has n h i = pick (decLt i n)
     pick (no l) = bit-past (setOf has n) n i (set-below has n) (omega arith) ∙ sym (h i (omega arith))
 
 -- the list of those numbers in the front of a memory, by one more
-pub front-with : (has : ℕ → Bool) (z k : ℕ) (out memory : List ℕ) → has z ≡ true → k ≡ length (those has z) → out ≡ those has z ++ drop k memory → k < length memory
+pub front-with : (has : ℕ → Bool) (z k : ℕ) (out memory : List ℕ) → has z ≡ true → k ≡ length (those has z)
+    → out ≡ those has z ++ drop k memory → k < length memory
     → set out k z ≡ those has (suc z) ++ drop (suc k) memory
 front-with has z k out memory h e o l =
     ap (λ (s : List ℕ). set s k z) (o ∙ ap (λ (s : List ℕ). those has z ++ s) (drop-cons memory k 0 l))

@@ -24,7 +24,9 @@ listed-one false n z = refl
 pub listed-those : (has : ℕ → Bool) (n z : ℕ) → listed (those has n) z ≡ ltb z n && has z
 unfolding those listed
 listed-those has zero z = rw (le-ltb z 0 (omega arith))
-listed-those has (suc n) z = listed-append (those has n) (cond (has n) (n ∷ []) []) z ∙ (rw (listed-those has n z, listed-one (has n) n z) (place (decLt z n) (decLt n z)))
+listed-those has (suc n) z =
+    listed-append (those has n) (cond (has n) (n ∷ []) []) z
+    ∙ (rw (listed-those has n z, listed-one (has n) n z) (place (decLt z n) (decLt n z)))
   where
     place : Dec (z < n) → Dec (n < z) → ((ltb z n && has z) || (has n && eqb z n)) ≡ (ltb z (suc n) && has z)
     place (yes l) g = rw (lt-ltb z n l, lt-ltb z (suc n) (omega arith), ne-eqb z n (λ e. omega arith), and-false (has n)) (or-false (has z))
@@ -58,7 +60,8 @@ unfolding those
 those-below has zero k h = absurd (omega arith)
 those-below has (suc n) k h = pick (has n) refl (those-below has n) h
   where
-    pick : (b : Bool) → has n ≡ b → ((k : ℕ) → k < length (those has n) → getD (those has n) k 0 < n) → k < length (those has (suc n)) → getD (those has (suc n)) k 0 < suc n
+    pick : (b : Bool) → has n ≡ b → ((k : ℕ) → k < length (those has n) → getD (those has n) k 0 < n) → k < length (those has (suc n))
+        → getD (those has (suc n)) k 0 < suc n
     pick true e below h = rw (those-with has n e) (snoc-below (those has n) n below k (rw (those-with has n e) at h))
     pick false e below h = rw (those-without has n e) (omega (arith, below k (rw (those-without has n e) at h)))
 
@@ -82,7 +85,8 @@ straight-zooms zset h = zooms-straight zset (bit-past zset turnBit turnBit h (om
 pub set-back : (zset : ℕ) → zset < 2 ^ turnBit → setOfZooms (zoomsOf zset) ≡ zset
 set-back zset h =
     rw (straight-zooms zset h)
-    (set-same (listed (those (hasBit zset) (suc lastZoom))) (hasBit zset) (suc lastZoom) (λ i l. listed-those (hasBit zset) (suc lastZoom) i ∙ rw (lt-ltb i (suc lastZoom) l))
+    (set-same (listed (those (hasBit zset) (suc lastZoom))) (hasBit zset) (suc lastZoom)
+    (λ i l. listed-those (hasBit zset) (suc lastZoom) i ∙ rw (lt-ltb i (suc lastZoom) l))
     ∙ (set-of-bits zset (suc lastZoom) ∙ mod-eq-of-lt h))
 
 pub list-back : (zvec : List ℕ) → anyDeeper zvec ≡ false → (z : ℕ) → listed (zoomsOf (setOfZooms zvec)) z ≡ listed zvec z
@@ -99,4 +103,5 @@ pub rev-lower : (zvec : List ℕ) → anyDeeper zvec ≡ false → (z : ℕ) →
 rev-lower zvec e z h =
     let back : turnBit - (lastZoom - z) ≡ suc z = omega arith in
     listed-those (downFrom lastZoom (setOfZoomsRev zvec)) (suc lastZoom) z
-    ∙ (rw (lt-ltb z (suc lastZoom) (omega arith)) (bit-of-set (λ i. listed zvec (turnBit - i)) (suc turnBit) (lastZoom - z) (omega arith) ∙ ap (listed zvec) back))
+    ∙ (rw (lt-ltb z (suc lastZoom) (omega arith))
+    (bit-of-set (λ i. listed zvec (turnBit - i)) (suc turnBit) (lastZoom - z) (omega arith) ∙ ap (listed zvec) back))

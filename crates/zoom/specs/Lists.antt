@@ -44,7 +44,8 @@ pub set-of-next : (l : List ℕ) (i : ℕ) → anyDeeper l ≡ false → i < len
     → bitOr (setOfZooms (take i l)) (2 ^ getD l i 0) ≡ setOfZooms (take (suc i) l)
 set-of-next l i e h =
     set-with (listed (take i l)) (getD l i 0) (suc lastZoom) (omega (arith, none-deeper l i e h))
-    ∙ set-same (λ z. listed (take i l) z || eqb z (getD l i 0)) (listed (take (suc i) l)) (suc lastZoom) (λ z k. rw (take-suc l i 0 h) (sym (listed-snoc (take i l) (getD l i 0) z)))
+    ∙ set-same (λ z. listed (take i l) z || eqb z (getD l i 0)) (listed (take (suc i) l)) (suc lastZoom)
+    (λ z k. rw (take-suc l i 0 h) (sym (listed-snoc (take i l) (getD l i 0) z)))
 
 -- ---- the zooms of a set, and the set of a list, turned round
 

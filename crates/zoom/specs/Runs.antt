@@ -102,7 +102,8 @@ run-starts-are zset =
     rw (mod-eq-of-lt small) (beside zset (runStarts zset) (runBits zset * 2) (start-at zset))
 
 -- the starts and the ends one zoom on: at a run's edge one more, inside and outside of runs the same
-pub starts-here : (zset n : ℕ) → inRun zset n ≡ false → inRun zset (suc n) ≡ true → those (runStarts zset) (suc (suc n)) ≡ those (runStarts zset) (suc n) ++ (suc n ∷ [])
+pub starts-here : (zset n : ℕ) → inRun zset n ≡ false → inRun zset (suc n) ≡ true
+    → those (runStarts zset) (suc (suc n)) ≡ those (runStarts zset) (suc n) ++ (suc n ∷ [])
 starts-here zset n a b = those-with (runStarts zset) (suc n) (start-plain zset n ∙ rw (b, a))
 
 pub starts-inside : (zset n : ℕ) → inRun zset n ≡ true → those (runStarts zset) (suc (suc n)) ≡ those (runStarts zset) (suc n)

@@ -10,7 +10,8 @@ use lib.ListN.{length, getD}
 use lib.Bits.{bitAnd}
 use borrow.Author.Tests.{le-ltb}
 use Rattle.bits.specs.Powers.{pow-within}
-use Rattle.zoom.specs.AsRust.{lowest, highest, mirror, zooms-as-rust, turned-zooms, none-deeper, set-as-rust, set-rev-as-rust, range-as-rust, runs-as-rust}
+use Rattle.zoom.specs.AsRust.{lowest, highest, mirror, zooms-as-rust, turned-zooms, none-deeper, set-as-rust, set-rev-as-rust}
+use Rattle.zoom.specs.AsRust.{range-as-rust, runs-as-rust}
 use Rattle.zoom.specs.Bits.{hasBit, those, setOf, between}
 use Rattle.zoom.specs.Cover.{fromTo, spread, runs-cover}
 use Rattle.zoom.specs.Laws.{set-of-one, set-of-span, set-same, bit-and}
@@ -114,7 +115,8 @@ one-zoom z h = set-same (listed (z ∷ [])) (λ i. eqb i z) (suc lastZoom) (λ i
 pub one-zoom-rev : (z : ℕ) → z ≤ lastZoom → setOfZoomsRev (z ∷ []) ≡ 2 ^ (turnBit - z)
 unfolding listed
 one-zoom-rev z h =
-    set-same (λ i. listed (z ∷ []) (turnBit - i)) (λ i. eqb i (turnBit - z)) (suc turnBit) (λ i l. or-false (eqb (turnBit - i) z) ∙ sym (mirror i z (omega arith) (omega arith)))
+    set-same (λ i. listed (z ∷ []) (turnBit - i)) (λ i. eqb i (turnBit - z)) (suc turnBit)
+    (λ i l. or-false (eqb (turnBit - i) z) ∙ sym (mirror i z (omega arith) (omega arith)))
     ∙ set-of-one (turnBit - z) (suc turnBit) (omega arith)
 
 -- ---- runs

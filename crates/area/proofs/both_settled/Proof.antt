@@ -50,8 +50,11 @@ settled-requires-2 : tie.Need-settled-requires-2
 settled-requires-2 c κs =
     let s = c .before .before .before .before .before .before .before .before .before .before .before .before .before .before in
     let a = s .args in
-    let k = c .before .before .before .before .before .before .before .settled in
-    (keyed-entries (a .a .now) (a .b .now) (a .keys .now) (s .pre .1) .1, second-part (a .keys .now) (k .last .1 .0) (length (a .a .now)) (omega (arith, s .pre .0)) (k .kept .1 .0) ∙ second-keys (a .a .now) (a .b .now) (a .keys .now) (s .pre .1 .both refl))
+    let k = c .before .before .before .before .before .before .before .settled in (
+      keyed-entries (a .a .now) (a .b .now) (a .keys .now) (s .pre .1) .1,
+      second-part (a .keys .now) (k .last .1 .0) (length (a .a .now)) (omega (arith, s .pre .0)) (k .kept .1 .0)
+          ∙ second-keys (a .a .now) (a .b .now) (a .keys .now) (s .pre .1 .both refl),
+    )
 
 same-length-3 : tie.Need-same-length-3
 same-length-3 c = search needs
@@ -65,7 +68,8 @@ returns-2 c =
     let a = s .args in
     let k = c .before .before .before .before .before .before .before .before .before .before .before .before .settled in
     let m = c .before .before .before .before .settled2 in
-    both-settled (a .a .now) (a .b .now) (a .keys .now) (s .pre .0) (k .last .1 .0) (m .last .1 .0) (k .result) (m .result) (k .kept .1 .0) (k .ensures) (c .before .before .before .before .before .before .before .if1 .left) (m .ensures)
+    both-settled (a .a .now) (a .b .now) (a .keys .now) (s .pre .0) (k .last .1 .0) (m .last .1 .0) (k .result) (m .result) (k .kept .1 .0) (k .ensures)
+    (c .before .before .before .before .before .before .before .if1 .left) (m .ensures)
 
 pub both-settled-spec : {M : Type 1} → statement M
 both-settled-spec =

@@ -31,7 +31,9 @@ same-length-2 c = search needs
 
 returns : tie.Need-returns
 returns c =
-    let s = c .before .before .before .before .before .before .before .before .before .before .before .before .before .before .before .before in made-listed (s .args .a .now) (s .args .b .now) (s .args .keys .now) (s .pre .0) (c .before .before .before .before .before .before .before .before .before .made .ensures) (c .before .before .before .before .finish .ensures)
+    let s = c .before .before .before .before .before .before .before .before .before .before .before .before .before .before .before .before in
+    made-listed (s .args .a .now) (s .args .b .now) (s .args .keys .now) (s .pre .0)
+    (c .before .before .before .before .before .before .before .before .before .made .ensures) (c .before .before .before .before .finish .ensures)
 
 pub join-spec : {M : Type 1} → statement M
 join-spec =

@@ -21,7 +21,8 @@ slice-relend-prefix-join c = search needs
 
 slice-aggregate-join : tie.Need-slice-aggregate-join
 slice-aggregate-join c =
-    let a = c .before .before .before .before .before .before .before .args in sym (length-take-le (length (a .a .now) + length (a .b .now)) (a .out .now) (omega (arith, c .before .before .if1 .left)))
+    let a = c .before .before .before .before .before .before .before .args in
+    sym (length-take-le (length (a .a .now) + length (a .b .now)) (a .out .now) (omega (arith, c .before .before .if1 .left)))
 
 join-requires : tie.Need-join-requires
 join-requires c κs =
@@ -40,7 +41,8 @@ returns-2 c =
     let s = c .before .before .before .before .before .before .before .before .before .before .before .before in
     let a = s .args in
     let j = c .before .before .before .before .join in
-    join-done (a .a .now) (a .b .now) (a .keys .now) (a .out .now) (s .pre) (a .all) (j .last .1 .1 .1 .1 .0) (j .result) (omega (arith, c .before .before .before .before .before .before .before .if1 .left))
+    join-done (a .a .now) (a .b .now) (a .keys .now) (a .out .now) (s .pre) (a .all) (j .last .1 .1 .1 .1 .0) (j .result)
+    (omega (arith, c .before .before .before .before .before .before .before .if1 .left))
     (j .kept .1 .1 .1 .1 .0 ∙ length-take-le (length (a .a .now) + length (a .b .now)) (a .out .now) (omega (arith, c .before .before .before .before .before .before .before .if1 .left))) (j .ensures)
 
 pub joined-spec : {M : Type 1} → statement M

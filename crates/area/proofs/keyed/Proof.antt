@@ -49,7 +49,8 @@ returns-2 c =
     let s = c .before .before .before .before .before .before .before .before .before .before .before .before in
     let k = c .before .before .before .before .before .before .before .keys in
     let m = c .before .before .keys3 in
-    keyed-both (s .args .a .now) (s .args .b .now) (s .args .keys .now) (s .pre) (k .last .1 .0) (m .last .1 .0) (k .result) (m .result) (k .kept .1 .0) (k .ensures) (c .before .before .before .before .if1 .left) (m .ensures)
+    keyed-both (s .args .a .now) (s .args .b .now) (s .args .keys .now) (s .pre) (k .last .1 .0) (m .last .1 .0) (k .result) (m .result) (k .kept .1 .0)
+    (k .ensures) (c .before .before .before .before .if1 .left) (m .ensures)
 
 pub keyed-spec : {M : Type 1} → statement M
 keyed-spec =

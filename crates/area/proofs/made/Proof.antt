@@ -45,7 +45,8 @@ returns-2 : tie.Need-returns-2
 returns-2 c =
     let a = c .before .before .before .before .before .before .before .before .before .args in
     let u = c .before .before .common in
-    subst (λ b. Made b (take (a .n) (a .places .now)) (drop (a .n) (a .places .now)) (u .last .1 .1 .0) (u .result)) (sym (c .before .before .before .before .before .before .if1 .left)) (common-made (a .places .now) (a .n) (u .ensures))
+    subst (λ b. Made b (take (a .n) (a .places .now)) (drop (a .n) (a .places .now)) (u .last .1 .1 .0) (u .result))
+    (sym (c .before .before .before .before .before .before .if1 .left)) (common-made (a .places .now) (a .n) (u .ensures))
 
 pub made-spec : {M : Type 1} → statement M
 made-spec =

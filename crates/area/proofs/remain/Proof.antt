@@ -29,7 +29,8 @@ same-length c = search needs
 
 returns : tie.Need-returns
 returns c =
-    let s = c .before .before .before .before .before .before .before .before in tail-left (s .args .places .now) (s .args .n) (c .before .before .left .ensures .0) (c .before .before .left .ensures .1)
+    let s = c .before .before .before .before .before .before .before .before in
+    tail-left (s .args .places .now) (s .args .n) (c .before .before .left .ensures .0) (c .before .before .left .ensures .1)
 
 pub remain-spec : {M : Type 1} → statement M
 remain-spec =

@@ -25,14 +25,17 @@ merge-requires : tie.Need-merge-requires
 merge-requires c κs = let s = c .before .before .before .before .before in parted-merge (s .args .places .now) (s .args .n) (s .pre .0) (s .args .out .now) (s .pre .1)
 
 settle-requires : tie.Need-settle-requires
-settle-requires c κs = let s = c .before .before .before .before .before .before .before .before .before in merged-ready (s .args .places .now) (s .args .n) (s .pre .0) (c .before .before .before .merge .ensures)
+settle-requires c κs = let s = c .before .before .before .before .before .before .before .before .before in
+    merged-ready (s .args .places .now) (s .args .n) (s .pre .0) (c .before .before .before .merge .ensures)
 
 same-length : tie.Need-same-length
 same-length c = search needs
 
 returns : tie.Need-returns
 returns c =
-    let s = c .before .before .before .before .before .before .before .before .before .before .before .before in merged-made (s .args .places .now) (s .args .n) (s .pre .0) (c .before .before .before .before .before .before .merge .ensures) (c .before .before .settle .ensures)
+    let s = c .before .before .before .before .before .before .before .before .before .before .before .before in
+    merged-made (s .args .places .now) (s .args .n) (s .pre .0) (c .before .before .before .before .before .before .merge .ensures)
+    (c .before .before .settle .ensures)
 
 pub united-spec : {M : Type 1} → statement M
 united-spec =

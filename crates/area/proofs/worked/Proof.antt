@@ -31,7 +31,9 @@ same-length-2 c = search needs
 
 returns : tie.Need-returns
 returns c =
-    let a = c .before .before .before .before .before .before .before .before .before .before .before .before .before .args in by-work (a .a .now) (a .b .now) (a .out .now) Union (c .before .before .before .before .before .before .before .enum-told .given .1) (c .before .before .before .before .joined .ensures)
+    let a = c .before .before .before .before .before .before .before .before .before .before .before .before .before .args in
+    by-work (a .a .now) (a .b .now) (a .out .now) Union (c .before .before .before .before .before .before .before .enum-told .given .1)
+    (c .before .before .before .before .joined .ensures)
 
 same-length-3 : tie.Need-same-length-3
 same-length-3 c = search needs
@@ -41,7 +43,9 @@ same-length-4 c = search needs
 
 returns-2 : tie.Need-returns-2
 returns-2 c =
-    let a = c .before .before .before .before .before .before .before .before .before .before .before .before .before .args in by-work (a .a .now) (a .b .now) (a .out .now) Common (c .before .before .before .before .before .before .before .enum-told2 .given .1) (c .before .before .before .before .joined2 .ensures)
+    let a = c .before .before .before .before .before .before .before .before .before .before .before .before .before .args in
+    by-work (a .a .now) (a .b .now) (a .out .now) Common (c .before .before .before .before .before .before .before .enum-told2 .given .1)
+    (c .before .before .before .before .joined2 .ensures)
 
 same-length-5 : tie.Need-same-length-5
 same-length-5 c = search needs
@@ -51,7 +55,9 @@ same-length-6 c = search needs
 
 returns-3 : tie.Need-returns-3
 returns-3 c =
-    let a = c .before .before .before .before .before .before .before .before .before .before .before .before .before .args in by-work (a .a .now) (a .b .now) (a .out .now) Difference (c .before .before .before .before .before .before .before .enum-told3 .given .1) (c .before .before .before .before .remaining .ensures)
+    let a = c .before .before .before .before .before .before .before .before .before .before .before .before .before .args in
+    by-work (a .a .now) (a .b .now) (a .out .now) Difference (c .before .before .before .before .before .before .before .enum-told3 .given .1)
+    (c .before .before .before .before .remaining .ensures)
 
 pub worked-spec : {M : Type 1} → statement M
 worked-spec =

@@ -13,7 +13,9 @@ use Rattle.areas.proofs.take_in.Statement.{statement}
 use Rattle.areas.proofs.take_in.Tie as tie
 
 abbrev Inv-loop : tie.InvT-loop
-Inv-loop chunk line₀ out₀ so-far₀ line out so-far = (length out ≡ length out₀) × (length line ≡ suc maxLine) × (so-far .at ≤ length chunk) × (keptOf (take (so-far .len) line) (drop (so-far .at) chunk) ≡ keptOf (take (so-far₀ .len) line₀) (drop (so-far₀ .at) chunk))
+Inv-loop chunk line₀ out₀ so-far₀ line out so-far =
+    (length out ≡ length out₀) × (length line ≡ suc maxLine) × (so-far .at ≤ length chunk)
+    × (keptOf (take (so-far .len) line) (drop (so-far .at) chunk) ≡ keptOf (take (so-far₀ .len) line₀) (drop (so-far₀ .at) chunk))
 
 abbrev μ-loop : tie.MeasureT-loop
 μ-loop chunk line₀ out₀ so-far₀ line out so-far = length chunk - so-far .at

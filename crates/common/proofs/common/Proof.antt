@@ -39,10 +39,12 @@ in-a c = c .before .before .before .loop-test .taken
 in-b : (c : tie.After-shared-slice-known4 Inv-loop μ-loop) → c .before .before .before .before .loop .j < length (c .before .before .before .before .before .before .before .before .args .b .now)
 in-b c = omega (arith, ltb-true)
 
-place-a : (c : tie.After-shared-slice-known4 Inv-loop μ-loop) → IsPlace (getD (c .before .before .before .before .before .before .before .before .args .a .now) (c .before .before .before .before .loop .i) 0)
+place-a : (c : tie.After-shared-slice-known4 Inv-loop μ-loop)
+    → IsPlace (getD (c .before .before .before .before .before .before .before .before .args .a .now) (c .before .before .before .before .loop .i) 0)
 place-a c = c .before .before .before .before .before .before .before .before .pre .0 .each _ (in-a c)
 
-place-b : (c : tie.After-shared-slice-known4 Inv-loop μ-loop) → IsPlace (getD (c .before .before .before .before .before .before .before .before .args .b .now) (c .before .before .before .before .loop .j) 0)
+place-b : (c : tie.After-shared-slice-known4 Inv-loop μ-loop)
+    → IsPlace (getD (c .before .before .before .before .before .before .before .before .args .b .now) (c .before .before .before .before .loop .j) 0)
 place-b c = c .before .before .before .before .before .before .before .before .pre .1 .each _ (in-b c)
 
 low-bit-requires : tie.Need-low-bit-requires Inv-loop μ-loop
@@ -120,8 +122,11 @@ loop-again-3 c =
     let pa = place-a read in
     let pb = place-b read in
     let la = c .before .before .before .before .low-bit .ensures in
-    let lb = c .before .before .before .low-bit2 .ensures in
-    (rw length-set (w .0), inside (runs .0) (runs .1) (w .1) (in-a read) (in-b read) (omega (arith, w .0, w .1 .room, in-a read, in-b read, runs .2)) (nested pa pb la lb (c .before .before .if2 .left) (c .before .if3 .left) (c .if4 .taken)))
+    let lb = c .before .before .before .low-bit2 .ensures in (
+      rw length-set (w .0),
+      inside (runs .0) (runs .1) (w .1) (in-a read) (in-b read) (omega (arith, w .0, w .1 .room, in-a read, in-b read, runs .2))
+          (nested pa pb la lb (c .before .before .if2 .left) (c .before .if3 .left) (c .if4 .taken)),
+    )
 
 mul-out-2 : tie.Need-mul-out-2 Inv-loop μ-loop
 mul-out-2 c = search needs
@@ -146,8 +151,11 @@ loop-again-4 c =
     let pa = place-a read in
     let pb = place-b read in
     let la = c .before .before .before .before .low-bit .ensures in
-    let lb = c .before .before .before .low-bit2 .ensures in
-    (rw length-set (w .0), turned (inside (runs .1) (runs .0) (turned (w .1)) (in-b read) (in-a read) (omega (arith, w .0, w .1 .room, in-a read, in-b read, runs .2)) (nested pb pa lb la (c .before .if3 .left) (c .before .before .if2 .left) (omega (arith, c .if4 .left)))))
+    let lb = c .before .before .before .low-bit2 .ensures in (
+      rw length-set (w .0),
+      turned (inside (runs .1) (runs .0) (turned (w .1)) (in-b read) (in-a read) (omega (arith, w .0, w .1 .room, in-a read, in-b read, runs .2))
+          (nested pb pa lb la (c .before .if3 .left) (c .before .before .if2 .left) (omega (arith, c .if4 .left)))),
+    )
 
 same-length : tie.Need-same-length Inv-loop μ-loop
 same-length c = search needs

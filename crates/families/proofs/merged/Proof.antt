@@ -12,7 +12,9 @@ sort-into-requires c κs = search needs
 
 pass-requires : tie.Need-pass-requires
 pass-requires c κs =
-    let l = c .before .before .before .before .before .before .before .before .before .before .args .quads .now in rw (c .before .before .before .before .before .sort-into .ensures) (sort-numbers quadOf l (c .before .before .before .before .before .before .before .before .before .before .pre .0), sorted-by l)
+    let l = c .before .before .before .before .before .before .before .before .before .before .args .quads .now in
+    rw (c .before .before .before .before .before .sort-into .ensures)
+    (sort-numbers quadOf l (c .before .before .before .before .before .before .before .before .before .before .pre .0), sorted-by l)
 
 finish-requires : tie.Need-finish-requires
 finish-requires c κs = search needs
@@ -24,7 +26,11 @@ same-length-2 : tie.Need-same-length-2
 same-length-2 c = search needs
 
 returns : tie.Need-returns
-returns c = passed-merges (c .before .before .before .before .before .before .before .before .before .before .before .before .before .before .before .before .before .before .before .before .args .quads .now) (rw (c .before .before .before .before .before .before .before .before .before .before .before .before .before .before .before .sort-into .ensures) at (c .before .before .before .before .before .before .before .before .before .pass .ensures)) (c .before .before .before .before .finish .ensures)
+returns c =
+    let finished = c .before .before .before .before in
+    let passed = finished .before .before .before .before .before in
+    let sorted = passed .before .before .before .before .before .before in
+    passed-merges (sorted .before .before .before .before .before .args .quads .now) (rw (sorted .sort-into .ensures) at (passed .pass .ensures)) (finished .finish .ensures)
 
 pub merged-spec : {M : Type 1} → statement M
 merged-spec =

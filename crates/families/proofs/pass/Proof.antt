@@ -41,7 +41,8 @@ returns c =
     passed (start .args .m) (start .args .quads .now) (start .pre .0) (start .pre .1) (part ++ rest) (O .result) (J .result)
     (sym (length-take-le (O .result) (O .last .0) (e .within)) ∙ ap length (e .front))
     (rw (length-append part rest) (omega (arith, J .ensures .0)))
-    (take-append-le (J .result) part rest (J .ensures .0) ∙ (J .ensures .1 ∙ (ap (λ (n : ℕ). joinOf n (take (O .result) (O .last .0))) (F .ensures) ∙ ap (joinOf (firstQuad (start .args .m))) (e .front))))
+    (take-append-le (J .result) part rest (J .ensures .0)
+    ∙ (J .ensures .1 ∙ (ap (λ (n : ℕ). joinOf n (take (O .result) (O .last .0))) (F .ensures) ∙ ap (joinOf (firstQuad (start .args .m))) (e .front))))
 
 pub pass-spec : {M : Type 1} → statement M
 pass-spec =

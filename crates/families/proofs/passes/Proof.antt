@@ -76,7 +76,8 @@ same-length-4 : tie.Need-same-length-4 Inv-loop μ-loop
 same-length-4 c = search needs
 
 returns-2 : tie.Need-returns-2 Inv-loop μ-loop
-returns-2 c = let L = c .before .loop in let a = c .before .before .before .before .args in turned-all (a .m) (take (a .count) (a .quads .now)) (L .quads) (L .left) (L .zooms) (L .inv .0) (c .loop-test .left)
+returns-2 c = let L = c .before .loop in let a = c .before .before .before .before .args in
+    turned-all (a .m) (take (a .count) (a .quads .now)) (L .quads) (L .left) (L .zooms) (L .inv .0) (c .loop-test .left)
 
 pub passes-spec : {M : Type 1} → statement M
 passes-spec =

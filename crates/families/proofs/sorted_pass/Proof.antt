@@ -12,7 +12,9 @@ sort-requires c κs = search needs
 
 pass-requires : tie.Need-pass-requires
 pass-requires c κs =
-    let l = c .before .before .before .before .before .before .before .before .before .before .args .quads .now in rw (c .before .before .before .before .before .sort .ensures) (sort-numbers quadOf l (c .before .before .before .before .before .before .before .before .before .before .pre .0), sorted-by l)
+    let l = c .before .before .before .before .before .before .before .before .before .before .args .quads .now in
+    rw (c .before .before .before .before .before .sort .ensures)
+    (sort-numbers quadOf l (c .before .before .before .before .before .before .before .before .before .before .pre .0), sorted-by l)
 
 same-length : tie.Need-same-length
 same-length c = search needs
@@ -21,7 +23,8 @@ same-length-2 : tie.Need-same-length-2
 same-length-2 c = search needs
 
 returns : tie.Need-returns
-returns c = sort-passed (c .before .before .before .before .before .before .before .before .before .before .before .before .before .args .quads .now) (rw (c .before .before .before .before .before .before .before .before .sort .ensures) at (c .before .before .pass .ensures))
+returns c = sort-passed (c .before .before .before .before .before .before .before .before .before .before .before .before .before .args .quads .now)
+    (rw (c .before .before .before .before .before .before .before .before .sort .ensures) at (c .before .before .pass .ensures))
 
 pub sorted-pass-spec : {M : Type 1} → statement M
 sorted-pass-spec =

@@ -31,16 +31,21 @@ key-length-requires : tie.Need-key-length-requires Inv-loop μ-loop
 key-length-requires c κs = search needs
 
 returns-2 : tie.Need-returns-2 Inv-loop μ-loop
-returns-2 c = let s = c .before .before .before .before .before in keys-broken (s .loop .at) (s .before .before .args .bytes .now) (s .loop .inv) (c .before .before .before .before .loop-test .taken) (c .before .before .if1 .left) (sym (c .before .key-length .ensures) ∙ c .if2 .taken)
+returns-2 c = let s = c .before .before .before .before .before in
+    keys-broken (s .loop .at) (s .before .before .args .bytes .now) (s .loop .inv) (c .before .before .before .before .loop-test .taken)
+    (c .before .before .if1 .left) (sym (c .before .key-length .ensures) ∙ c .if2 .taken)
 
 add-at : tie.Need-add-at Inv-loop μ-loop
-add-at c = let s = c .before .before .before .before .before in let p = passed-some (s .loop .at) (s .before .before .args .bytes .now) (s .loop .inv) _ (sym (c .before .key-length .ensures)) (c .if2 .left) in omega (arith, p .within, s .before .before .good)
+add-at c = let s = c .before .before .before .before .before in
+    let p = passed-some (s .loop .at) (s .before .before .args .bytes .now) (s .loop .inv) _ (sym (c .before .key-length .ensures)) (c .if2 .left) in
+    omega (arith, p .within, s .before .before .good)
 
 loop-less : tie.Need-loop-less Inv-loop μ-loop
 loop-less c = omega (arith, c .if2 .left, c .before .before .before .before .loop-test .taken)
 
 loop-again : tie.Need-loop-again Inv-loop μ-loop
-loop-again c = let s = c .before .before .before .before .before in passed-some (s .loop .at) (s .before .before .args .bytes .now) (s .loop .inv) _ (sym (c .before .key-length .ensures)) (c .if2 .left)
+loop-again c = let s = c .before .before .before .before .before in
+    passed-some (s .loop .at) (s .before .before .args .bytes .now) (s .loop .inv) _ (sym (c .before .key-length .ensures)) (c .if2 .left)
 
 returns-3 : tie.Need-returns-3 Inv-loop μ-loop
 returns-3 c = let s = c .before in keys-past (s .loop .at) (s .before .before .args .bytes .now) (s .loop .inv) (c .loop-test .left)

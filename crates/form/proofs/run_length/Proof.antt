@@ -29,7 +29,13 @@ sub-result : tie.Need-sub-result Inv-loop μ-loop
 sub-result c = c .before .before .before .before .loop .inv .0
 
 returns : tie.Need-returns Inv-loop μ-loop
-returns c = let s = c .before .before .before .before in omega (arith, s .loop .inv .1, run-stops (s .before .before .args .bytes .now) (s .loop .i) (c .before .before .before .loop-test .taken) (sym (c .before .is-key-byte .ensures) ∙ not-true _ (c .if1 .taken)))
+returns c = let s = c .before .before .before .before in
+    omega (
+      arith,
+      s .loop .inv .1,
+      run-stops (s .before .before .args .bytes .now) (s .loop .i) (c .before .before .before .loop-test .taken)
+          (sym (c .before .is-key-byte .ensures) ∙ not-true _ (c .if1 .taken)),
+    )
 
 add-i : tie.Need-add-i Inv-loop μ-loop
 add-i c = search needs
@@ -38,7 +44,9 @@ loop-less : tie.Need-loop-less Inv-loop μ-loop
 loop-less c = search needs
 
 loop-again : tie.Need-loop-again Inv-loop μ-loop
-loop-again c = let s = c .before .before .before .before in let m = run-more (s .before .before .args .bytes .now) (s .loop .i) (c .before .before .before .loop-test .taken) (sym (c .before .is-key-byte .ensures) ∙ not-false _ (c .if1 .left)) in (omega (arith, s .loop .inv .0), omega (arith, s .loop .inv, m))
+loop-again c = let s = c .before .before .before .before in
+    let m = run-more (s .before .before .args .bytes .now) (s .loop .i) (c .before .before .before .loop-test .taken)
+    (sym (c .before .is-key-byte .ensures) ∙ not-false _ (c .if1 .left)) in (omega (arith, s .loop .inv .0), omega (arith, s .loop .inv, m))
 
 sub-result-2 : tie.Need-sub-result-2 Inv-loop μ-loop
 sub-result-2 c = c .before .loop .inv .0

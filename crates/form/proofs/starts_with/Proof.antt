@@ -31,7 +31,8 @@ returns-2 : tie.Need-returns-2 Inv-loop μ-loop
 returns-2 c =
     let s = c .before .before .before .before in
     let a = s .before .before .args in
-    sym (s .loop .inv .1 ∙ starts-not (a .front .now) (a .bytes .now) (s .loop .i) (c .before .before .before .loop-test .taken) (omega (arith, c .before .before .before .loop-test .taken, s .before .if1 .left)) (c .if2 .taken))
+    sym (s .loop .inv .1 ∙ starts-not (a .front .now) (a .bytes .now) (s .loop .i) (c .before .before .before .loop-test .taken)
+    (omega (arith, c .before .before .before .loop-test .taken, s .before .if1 .left)) (c .if2 .taken))
 
 add-i : tie.Need-add-i Inv-loop μ-loop
 add-i c = search needs
@@ -42,8 +43,12 @@ loop-less c = search needs
 loop-again : tie.Need-loop-again Inv-loop μ-loop
 loop-again c =
     let s = c .before .before .before .before in
-    let a = s .before .before .args in
-    (omega (arith, c .before .before .before .loop-test .taken), s .loop .inv .1 ∙ starts-more (a .front .now) (a .bytes .now) (s .loop .i) (c .before .before .before .loop-test .taken) (omega (arith, c .before .before .before .loop-test .taken, s .before .if1 .left)) (c .if2 .left))
+    let a = s .before .before .args in (
+      omega (arith, c .before .before .before .loop-test .taken),
+      s .loop .inv .1
+          ∙ starts-more (a .front .now) (a .bytes .now) (s .loop .i) (c .before .before .before .loop-test .taken)
+          (omega (arith, c .before .before .before .loop-test .taken, s .before .if1 .left)) (c .if2 .left),
+    )
 
 returns-3 : tie.Need-returns-3 Inv-loop μ-loop
 returns-3 c = let s = c .before in let a = s .before .before .args in sym (s .loop .inv .1 ∙ starts-all (a .front .now) (a .bytes .now) (s .loop .i) (c .loop-test .left))

@@ -44,8 +44,13 @@ unfolding maxOpen
 loop-again c =
     let s = c .before .before .before .before in
     let l = s .before .before .args .line .now in
-    let e = c .before .open-behind .ensures in
-    (omega (arith, c .before .before .before .loop-test .taken), c .if1 .left, s .loop .inv .2 ∙ (deep-later l (s .loop .i) (s .loop .depth) (c .before .before .before .loop-test .taken) (rw (← e) (c .if1 .left)) ∙ ap (λ (n : ℕ). tooDeep n (drop (s .loop .i + 1) l)) (sym e)))
+    let e = c .before .open-behind .ensures in (
+      omega (arith, c .before .before .before .loop-test .taken),
+      c .if1 .left,
+      s .loop .inv .2
+          ∙ (deep-later l (s .loop .i) (s .loop .depth) (c .before .before .before .loop-test .taken) (rw (← e) (c .if1 .left))
+          ∙ ap (λ (n : ℕ). tooDeep n (drop (s .loop .i + 1) l)) (sym e)),
+    )
 
 returns-2 : tie.Need-returns-2 Inv-loop μ-loop
 returns-2 c = let s = c .before in sym (s .loop .inv .2 ∙ deep-nowhere (s .before .before .args .line .now) (s .loop .i) (s .loop .depth) (c .loop-test .left))

@@ -18,16 +18,19 @@ enum-told : tie.Need-enum-told
 enum-told c = search needs
 
 returns : tie.Need-returns
-returns c = let l = c .before .before .before .before .args .line .now in sym (whole-refused l (no-reading l (subst (λ e. FormEnds e l) (c .enum-told .given .1) (c .before .before .form-end .ensures))))
+returns c = let l = c .before .before .before .before .args .line .now in
+    sym (whole-refused l (no-reading l (subst (λ e. FormEnds e l) (c .enum-told .given .1) (c .before .before .form-end .ensures))))
 
 there : (c : tie.After-n) → FormEnds (At (c .n .given .0 .0)) (c .before .before .before .before .args .line .now)
 there c = subst (λ e. FormEnds e (c .before .before .before .before .args .line .now)) (c .n .given .1) (c .before .before .form-end .ensures)
 
 returns-2 : tie.Need-returns-2
-returns-2 c = let l = c .before .before .before .before .before .before .args .line .now in sym (whole-refused l (part-of-line l (c .before .before .n .given .0 .0) (there (c .before .before)) (λ e. omega (arith, e, c .if1 .taken))))
+returns-2 c = let l = c .before .before .before .before .before .before .args .line .now in
+    sym (whole-refused l (part-of-line l (c .before .before .n .given .0 .0) (there (c .before .before)) (λ e. omega (arith, e, c .if1 .taken))))
 
 returns-3 : tie.Need-returns-3
-returns-3 c = let l = c .before .before .before .before .before .before .args .line .now in let n = c .before .before .n .given .0 .0 in let e = there (c .before .before) in sym (whole-fine l (e .1 .0) (whole-line l n e (omega (arith, e .0, c .if1 .left))))
+returns-3 c = let l = c .before .before .before .before .before .before .args .line .now in let n = c .before .before .n .given .0 .0 in
+    let e = there (c .before .before) in sym (whole-fine l (e .1 .0) (whole-line l n e (omega (arith, e .0, c .if1 .left))))
 
 pub whole-spec : {M : Type 1} → statement M
 whole-spec =

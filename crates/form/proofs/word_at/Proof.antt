@@ -33,7 +33,13 @@ starts-with-requires-3 c κs = search needs
 
 returns-3 : tie.Need-returns-3
 unfolding wordAt
-returns-3 c = rw (sym (c .before .before .before .before .before .before .before .starts-with .ensures) ∙ c .before .before .before .before .before .before .if1 .left, sym (c .before .before .before .before .starts-with2 .ensures) ∙ c .before .before .before .if2 .left, sym (c .before .starts-with3 .ensures) ∙ c .if3 .taken)
+returns-3 c = rw (
+  sym (c .before .before .before .before .before .before .before .starts-with .ensures)
+      ∙ c .before .before .before .before .before .before .if1 .left,
+  sym (c .before .before .before .before .starts-with2 .ensures)
+      ∙ c .before .before .before .if2 .left,
+  sym (c .before .starts-with3 .ensures) ∙ c .if3 .taken,
+)
 
 slice-aggregate-starts-with-4 : tie.Need-slice-aggregate-starts-with-4
 slice-aggregate-starts-with-4 c = search needs
@@ -43,11 +49,27 @@ starts-with-requires-4 c κs = search needs
 
 returns-4 : tie.Need-returns-4
 unfolding wordAt
-returns-4 c = rw (sym (c .before .before .before .before .before .before .before .before .before .before .starts-with .ensures) ∙ c .before .before .before .before .before .before .before .before .before .if1 .left, sym (c .before .before .before .before .before .before .before .starts-with2 .ensures) ∙ c .before .before .before .before .before .before .if2 .left, sym (c .before .before .before .before .starts-with3 .ensures) ∙ c .before .before .before .if3 .left, sym (c .before .starts-with4 .ensures) ∙ c .if4 .taken)
+returns-4 c = rw (
+  sym (c .before .before .before .before .before .before .before .before .before .before .starts-with .ensures)
+      ∙ c .before .before .before .before .before .before .before .before .before .if1 .left,
+  sym (c .before .before .before .before .before .before .before .starts-with2 .ensures)
+      ∙ c .before .before .before .before .before .before .if2 .left,
+  sym (c .before .before .before .before .starts-with3 .ensures)
+      ∙ c .before .before .before .if3 .left,
+  sym (c .before .starts-with4 .ensures) ∙ c .if4 .taken,
+)
 
 returns-5 : tie.Need-returns-5
 unfolding wordAt
-returns-5 c = rw (sym (c .before .before .before .before .before .before .before .before .before .before .starts-with .ensures) ∙ c .before .before .before .before .before .before .before .before .before .if1 .left, sym (c .before .before .before .before .before .before .before .starts-with2 .ensures) ∙ c .before .before .before .before .before .before .if2 .left, sym (c .before .before .before .before .starts-with3 .ensures) ∙ c .before .before .before .if3 .left, sym (c .before .starts-with4 .ensures) ∙ c .if4 .left)
+returns-5 c = rw (
+  sym (c .before .before .before .before .before .before .before .before .before .before .starts-with .ensures)
+      ∙ c .before .before .before .before .before .before .before .before .before .if1 .left,
+  sym (c .before .before .before .before .before .before .before .starts-with2 .ensures)
+      ∙ c .before .before .before .before .before .before .if2 .left,
+  sym (c .before .before .before .before .starts-with3 .ensures)
+      ∙ c .before .before .before .if3 .left,
+  sym (c .before .starts-with4 .ensures) ∙ c .if4 .left,
+)
 
 pub word-at-spec : {M : Type 1} → statement M
 word-at-spec =

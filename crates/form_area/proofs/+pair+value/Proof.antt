@@ -131,27 +131,41 @@ left-count t c = subst (λ (r : Count). Within r (c .before .before .before .val
 right-count : (t : ℕ) (c : pair-lts.After-j (pair-calls t) (pair-at t) pair.Post) → c .j .given .0 .0 ≤ length (c .before .before .before .value2 .last .1 .0)
 right-count t c = subst (λ (r : Count). Within r (c .before .before .before .value2 .last .1 .0)) (c .j .given .1) (c .before .before .before .value2 .ensures .within)
 
-left-area : (t : ℕ) (c : pair-lts.After-i (pair-calls t) (pair-at t) pair.Post) (f g : Form) → PairFirst f g [] (c .before .before .before .before .before .before .before .before .before .args .body .now) → valued (count.Counted (c .i .given .0 .0)) (c .before .before .before .value .last .1 .0) ≡ formArea f
+left-area : (t : ℕ) (c : pair-lts.After-i (pair-calls t) (pair-at t) pair.Post) (f g : Form)
+    → PairFirst f g [] (c .before .before .before .before .before .before .before .before .before .args .body .now)
+    → valued (count.Counted (c .i .given .0 .0)) (c .before .before .before .value .last .1 .0) ≡ formArea f
 left-area t c f g p =
     subst (λ (r : Count). valued r (c .before .before .before .value .last .1 .0) ≡ formArea f) (c .i .given .1)
-    (c .before .before .before .value .ensures .area f (left-reads (c .before .before .before .before .before .before .before .before .before .args .body .now) (c .before .before .before .before .before .before .left-length .result) (c .before .before .before .before .before .before .left-length .ensures) f g p))
+    (c .before .before .before .value .ensures .area f
+    (left-reads (c .before .before .before .before .before .before .before .before .before .args .body .now)
+    (c .before .before .before .before .before .before .left-length .result) (c .before .before .before .before .before .before .left-length .ensures) f g p))
 
-right-area : (t : ℕ) (c : pair-lts.After-j (pair-calls t) (pair-at t) pair.Post) (f g : Form) → PairFirst f g [] (c .before .before .before .before .before .before .before .before .before .before .before .before .before .before .before .before .args .body .now) → valued (count.Counted (c .j .given .0 .0)) (c .before .before .before .value2 .last .1 .0) ≡ formArea g
+right-area : (t : ℕ) (c : pair-lts.After-j (pair-calls t) (pair-at t) pair.Post) (f g : Form)
+    → PairFirst f g [] (c .before .before .before .before .before .before .before .before .before .before .before .before .before .before .before .before .args .body .now)
+    → valued (count.Counted (c .j .given .0 .0)) (c .before .before .before .value2 .last .1 .0) ≡ formArea g
 right-area t c f g p =
-    subst (λ (r : Count). valued r (c .before .before .before .value2 .last .1 .0) ≡ formArea g) (c .j .given .1)
-    (c .before .before .before .value2 .ensures .area g (right-reads (c .before .before .before .before .before .before .before .before .before .before .before .before .before .before .before .before .args .body .now) (c .before .before .before .before .before .before .before .before .before .before .before .before .before .left-length .result) (c .before .before .before .before .before .before .before .before .before .before .before .before .before .left-length .ensures) f g p))
+    let valued-right = c .before .before .before in
+    let parted = valued-right .before .before .before .before .before .before .before .before .before .before in
+    subst (λ (r : Count). valued r (valued-right .value2 .last .1 .0) ≡ formArea g) (c .j .given .1)
+    (valued-right .value2 .ensures .area g
+    (right-reads (parted .before .before .before .args .body .now) (parted .left-length .result) (parted .left-length .ensures) f g p))
 
 pair-array-share-prefix-a : (t : ℕ) → pair-lts.Need-array-share-prefix-a (pair-calls t) (pair-at t) pair.Post
 pair-array-share-prefix-a t c = left-count t (c .before .before .before .before .before .before .before .before)
 
 pair-slice-aggregate-operate : (t : ℕ) → pair-lts.Need-slice-aggregate-operate (pair-calls t) (pair-at t) pair.Post
-pair-slice-aggregate-operate t c = sym (length-take-le (c .before .before .before .before .before .before .before .before .before .i .given .0 .0) (c .before .before .before .before .before .before .before .before .before .before .before .before .value .last .1 .0) (left-count t (c .before .before .before .before .before .before .before .before .before)))
+pair-slice-aggregate-operate t c =
+    sym (length-take-le (c .before .before .before .before .before .before .before .before .before .i .given .0 .0)
+    (c .before .before .before .before .before .before .before .before .before .before .before .before .value .last .1 .0)
+    (left-count t (c .before .before .before .before .before .before .before .before .before)))
 
 pair-array-share-prefix-b : (t : ℕ) → pair-lts.Need-array-share-prefix-b (pair-calls t) (pair-at t) pair.Post
 pair-array-share-prefix-b t c = right-count t (c .before .before)
 
 pair-slice-aggregate-operate-2 : (t : ℕ) → pair-lts.Need-slice-aggregate-operate-2 (pair-calls t) (pair-at t) pair.Post
-pair-slice-aggregate-operate-2 t c = sym (length-take-le (c .before .before .before .j .given .0 .0) (c .before .before .before .before .before .before .value2 .last .1 .0) (right-count t (c .before .before .before)))
+pair-slice-aggregate-operate-2 t c =
+    sym (length-take-le (c .before .before .before .j .given .0 .0) (c .before .before .before .before .before .before .value2 .last .1 .0)
+    (right-count t (c .before .before .before)))
 
 pair-operate-requires : (t : ℕ) → pair-lts.Need-operate-requires (pair-calls t) (pair-at t) pair.Post
 pair-operate-requires t c κs = search needs
@@ -174,8 +188,11 @@ pair-returns t c =
     let i = c .before .before .before .before .before .before .before .before .before .before .before .before .before .before .i .given .0 .0 in
     let j = c .before .before .before .before .before .before .before .j .given .0 .0 in
     record {
-      within = call-within (o .result) (o .last .1 .1 .1 .0) (operated (s .args .verb) (take i a) (take j b) (s .args .list .now)) (o .ensures) _ _ (operated-gives (s .args .verb) (take i a) (take j b) (s .args .list .now));
-      area = λ f g p. operated-area (s .args .verb) f g i j a b (left-area t (c .before .before .before .before .before .before .before .before .before .before .before .before .before .before) f g p) (right-area t (c .before .before .before .before .before .before .before) f g p) (o .result) (o .last .1 .1 .1 .0)
+      within = call-within (o .result) (o .last .1 .1 .1 .0) (operated (s .args .verb) (take i a) (take j b) (s .args .list .now)) (o .ensures) _ _
+          (operated-gives (s .args .verb) (take i a) (take j b) (s .args .list .now));
+      area = λ f g p. operated-area (s .args .verb) f g i j a b
+          (left-area t (c .before .before .before .before .before .before .before .before .before .before .before .before .before .before) f g p)
+          (right-area t (c .before .before .before .before .before .before .before) f g p) (o .result) (o .last .1 .1 .1 .0)
           (s .args .list .now) (o .ensures) (s .pre .1 .1 .1);
     }
 
@@ -185,10 +202,15 @@ pair-returns-2 t c =
     let e = c .before .why .given in
     record {
       within = omega arith;
-      area = λ f g p. right-refused-area (s .args .verb) f g (c .before .before .before .before .before .before .before .before .i .given .0 .0) (e .0 .0) (c .before .before .before .before .before .before .before .before .before .before .before .value .last .1 .0) (c .before .before .before .before .value2 .last .1 .0) (s .args .list .now)
+      area = λ f g p. right-refused-area (s .args .verb) f g (c .before .before .before .before .before .before .before .before .i .given .0 .0) (e .0 .0)
+          (c .before .before .before .before .before .before .before .before .before .before .before .value .last .1 .0)
+          (c .before .before .before .before .value2 .last .1 .0) (s .args .list .now)
           (left-area t (c .before .before .before .before .before .before .before .before) f g p)
           (subst (λ (r : Count). valued r (c .before .before .before .before .value2 .last .1 .0) ≡ formArea g) (e .1)
-          (c .before .before .before .before .value2 .ensures .area g (right-reads (s .args .body .now) (c .before .before .before .before .before .before .before .before .before .before .before .before .before .before .left-length .result) (c .before .before .before .before .before .before .before .before .before .before .before .before .before .before .left-length .ensures) f g p)));
+          (c .before .before .before .before .value2 .ensures .area g
+          (right-reads (s .args .body .now)
+          (c .before .before .before .before .before .before .before .before .before .before .before .before .before .before .left-length .result)
+          (c .before .before .before .before .before .before .before .before .before .before .before .before .before .before .left-length .ensures) f g p)));
     }
 
 pair-returns-3 : (t : ℕ) → pair-lts.Need-returns-3 (pair-calls t) (pair-at t) pair.Post
@@ -199,7 +221,9 @@ pair-returns-3 t c =
       within = omega arith;
       area = λ f g p. left-refused-area (s .args .verb) f g (e .0 .0) (c .before .before .before .before .value .last .1 .0) (s .args .list .now)
           (subst (λ (r : Count). valued r (c .before .before .before .before .value .last .1 .0) ≡ formArea f) (e .1)
-          (c .before .before .before .before .value .ensures .area f (left-reads (s .args .body .now) (c .before .before .before .before .before .before .before .left-length .result) (c .before .before .before .before .before .before .before .left-length .ensures) f g p)));
+          (c .before .before .before .before .value .ensures .area f
+          (left-reads (s .args .body .now) (c .before .before .before .before .before .before .before .left-length .result)
+          (c .before .before .before .before .before .before .before .left-length .ensures) f g p)));
     }
 
 value-word-at-requires : (t : ℕ) → value-lts.Need-word-at-requires (value-calls t) (value-at t) value.Post
@@ -238,7 +262,8 @@ value-pair-front-requires t c κs = search needs
 pair-opened : (t : ℕ) (c : value-lts.After-verb (value-calls t) (value-at t) value.Post) → Opened (word.Pair (c .verb .given .0 .0)) (c .before .before .before .before .before .args .line .now)
 pair-opened t c = subst (λ w. Opened w (c .before .before .before .before .before .args .line .now)) (sym (c .before .before .word-at .ensures) ∙ c .verb .given .1) (opened _)
 
-pair-within : (t : ℕ) (c : value-lts.After-pair-front (value-calls t) (value-at t) value.Post) → c .pair-front .result ≤ length (c .before .before .before .before .before .before .before .args .line .now)
+pair-within : (t : ℕ) (c : value-lts.After-pair-front (value-calls t) (value-at t) value.Post)
+    → c .pair-front .result ≤ length (c .before .before .before .before .before .before .before .args .line .now)
 pair-within t c = omega (arith, c .pair-front .ensures, front-within (pairFront (c .before .before .verb .given .0 .0)) _ (pair-opened t (c .before .before)))
 
 value-sub-pair : (t : ℕ) → value-lts.Need-sub-pair (value-calls t) (value-at t) value.Post
@@ -291,7 +316,8 @@ value-returns-2 t c =
     (subst (λ (x : List ℕ). OfPair v x (r .result) (r .last .1 .1 .0)) (rest-part l n) (r .ensures)))
 
 value-returns-3 : (t : ℕ) → value-lts.Need-returns-3 (value-calls t) (value-at t) value.Post
-value-returns-3 t c = let s = c .before .before .before .before .before in let l = s .args .line .now in absurd (some-word l (subst (λ w. Opened w l) (sym (c .before .before .word-at .ensures) ∙ c .enum-told2 .given .1) (opened l)) (s .pre .1 .1 .0))
+value-returns-3 t c = let s = c .before .before .before .before .before in let l = s .args .line .now in
+    absurd (some-word l (subst (λ w. Opened w l) (sym (c .before .before .word-at .ensures) ∙ c .enum-told2 .given .1) (opened l)) (s .pre .1 .1 .0))
 
 pub +pair+value-spec : {M : Type 1} → statement M
 +pair+value-spec = close μ-pair μ-value (λ t. pair-lts.spec (pair-calls t)

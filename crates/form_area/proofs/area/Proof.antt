@@ -67,10 +67,18 @@ same-length : tie.Need-same-length
 same-length c = search needs
 
 returns : tie.Need-returns
-returns c = let a = c .before .before .before .before .before .before .before .before .before .before .before .before .before .before .before .before .args in c .before .before .written .ensures ∙ ap (λ (v : Answer (List ℕ)). written (v .number) (v .value) (a .out .now)) (subst (λ (r : Count). valued r (c .before .before .before .before .before .before .before .before .before .value .last .1 .0) ≡ lineArea (a .line .now)) (c .before .before .before .before .before .before .n .given .1) (lined (c .before .before .before .before .before .before .before .before .before)))
+returns c = let a = c .before .before .before .before .before .before .before .before .before .before .before .before .before .before .before .before .args in
+    c .before .before .written .ensures
+    ∙ ap (λ (v : Answer (List ℕ)). written (v .number) (v .value) (a .out .now))
+    (subst (λ (r : Count). valued r (c .before .before .before .before .before .before .before .before .before .value .last .1 .0) ≡ lineArea (a .line .now))
+    (c .before .before .before .before .before .before .n .given .1) (lined (c .before .before .before .before .before .before .before .before .before)))
 
 returns-2 : tie.Need-returns-2
-returns-2 c = let a = c .before .before .before .before .before .before .before .before .before .before .before .args in written-refused (c .before .why .given .0 .0) (lineArea (a .line .now) .value) (a .out .now) (ap (λ (v : Answer (List ℕ)). v .number) (subst (λ (r : Count). valued r (c .before .before .before .before .value .last .1 .0) ≡ lineArea (a .line .now)) (c .before .why .given .1) (lined (c .before .before .before .before))))
+returns-2 c = let a = c .before .before .before .before .before .before .before .before .before .before .before .args in
+    written-refused (c .before .why .given .0 .0) (lineArea (a .line .now) .value) (a .out .now)
+    (ap (λ (v : Answer (List ℕ)). v .number)
+    (subst (λ (r : Count). valued r (c .before .before .before .before .value .last .1 .0) ≡ lineArea (a .line .now)) (c .before .why .given .1)
+    (lined (c .before .before .before .before))))
 
 returns-3 : tie.Need-returns-3
 returns-3 c =

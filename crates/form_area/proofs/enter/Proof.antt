@@ -24,11 +24,13 @@ add-loop c = omega (arith, c .loop .inv .0 .2 .within, c .before .before .before
 key-length-requires : tie.Need-key-length-requires Inv-loop μ-loop
 key-length-requires c κs = search needs
 
-next : (c : tie.After-key-length Inv-loop μ-loop) → (0 < c .key-length .result) × (c .before .before .loop .at + c .key-length .result < length (c .before .before .before .before .before .args .body .now))
+next : (c : tie.After-key-length Inv-loop μ-loop)
+    → (0 < c .key-length .result) × (c .before .before .loop .at + c .key-length .result < length (c .before .before .before .before .before .args .body .now))
 next c =
     let s = c .before .before in
     let k = coming (s .loop .at) (s .loop .n) (s .loop .entries) (s .before .before .before .args .body .now) (s .loop .inv .0) (c .before .loop-test .taken) in
-    let l = coming-length (s .loop .at) (s .loop .n) (s .loop .entries) (s .before .before .before .args .body .now) (s .loop .inv .0) (c .before .loop-test .taken) (c .key-length .result) (c .key-length .ensures) in
+    let l = coming-length (s .loop .at) (s .loop .n) (s .loop .entries) (s .before .before .before .args .body .now) (s .loop .inv .0)
+    (c .before .loop-test .taken) (c .key-length .result) (c .key-length .ensures) in
     (omega (arith, l), omega (arith, l, k .within))
 
 add-next : tie.Need-add-next Inv-loop μ-loop
@@ -59,7 +61,13 @@ same-length : tie.Need-same-length Inv-loop μ-loop
 same-length c = c .before .before .before .before .before .keep .kept .1 .1 .0 ∙ c .before .before .before .before .before .before .before .before .before .before .loop .inv .1
 
 returns : tie.Need-returns Inv-loop μ-loop
-returns c = let s = c .before .before .before .before .before .before .before .before .before .before in key-refused (s .loop .at) (s .loop .n) (s .loop .entries) (s .before .before .before .args .body .now) (s .loop .inv .0) (c .before .before .before .before .before .before .before .before .before .loop-test .taken) (c .before .before .before .before .before .before .before .before .key-length .result) (c .before .before .before .before .before .before .before .before .key-length .ensures) (c .before .before .before .before .before .keep .result) (c .before .why .given .0 .0) (c .before .before .before .before .before .keep .last .1 .1 .0) (c .before .before .before .before .before .keep .ensures) (c .before .why .given .1)
+returns c = let s = c .before .before .before .before .before .before .before .before .before .before in
+    key-refused (s .loop .at) (s .loop .n) (s .loop .entries) (s .before .before .before .args .body .now) (s .loop .inv .0)
+    (c .before .before .before .before .before .before .before .before .before .loop-test .taken)
+    (c .before .before .before .before .before .before .before .before .key-length .result)
+    (c .before .before .before .before .before .before .before .before .key-length .ensures) (c .before .before .before .before .before .keep .result)
+    (c .before .why .given .0 .0) (c .before .before .before .before .before .keep .last .1 .1 .0) (c .before .before .before .before .before .keep .ensures)
+    (c .before .why .given .1)
 
 add-n : tie.Need-add-n Inv-loop μ-loop
 add-n c = let s = c .before .before .before .before .before .before .before .before .before in omega (arith, s .loop .inv .0 .2 .few, s .loop .inv .0 .2 .within, s .before .before .before .good)
@@ -68,13 +76,22 @@ loop-less : tie.Need-loop-less Inv-loop μ-loop
 loop-less c = let k = next (c .before .before .before .before .before .before .before) in omega (arith, k .0, k .1)
 
 loop-again : tie.Need-loop-again Inv-loop μ-loop
-loop-again c = let s = c .before .before .before .before .before .before .before .before .before in (key-begun (s .loop .at) (s .loop .n) (s .loop .entries) (s .before .before .before .args .body .now) (s .loop .inv .0) (c .before .before .before .before .before .before .before .before .loop-test .taken) (c .before .before .before .before .before .before .before .key-length .result) (c .before .before .before .before .before .before .before .key-length .ensures) (c .before .before .before .before .keep .result) (c .before .before .before .before .keep .last .1 .1 .0) (c .before .before .before .before .keep .ensures) (c .enum-told .given .1), c .before .before .before .before .keep .kept .1 .1 .0 ∙ s .loop .inv .1)
+loop-again c = let s = c .before .before .before .before .before .before .before .before .before in (
+  key-begun (s .loop .at) (s .loop .n) (s .loop .entries) (s .before .before .before .args .body .now) (s .loop .inv .0)
+      (c .before .before .before .before .before .before .before .before .loop-test .taken)
+      (c .before .before .before .before .before .before .before .key-length .result)
+      (c .before .before .before .before .before .before .before .key-length .ensures) (c .before .before .before .before .keep .result)
+      (c .before .before .before .before .keep .last .1 .1 .0) (c .before .before .before .before .keep .ensures) (c .enum-told .given .1),
+  c .before .before .before .before .keep .kept .1 .1 .0 ∙ s .loop .inv .1,
+)
 
 same-length-2 : tie.Need-same-length-2 Inv-loop μ-loop
 same-length-2 c = c .before .loop .inv .1
 
 returns-2 : tie.Need-returns-2 Inv-loop μ-loop
-returns-2 c = let s = c .before in let b = s .loop .inv .0 in whichever (count.Counted (s .loop .n)) (s .loop .entries) (s .before .before .before .args .body .now) (b .0) (b .1) (all-entered (s .loop .at) (s .loop .n) (s .loop .entries) (s .before .before .before .args .body .now) (b .0) (b .2) (c .loop-test .left))
+returns-2 c = let s = c .before in let b = s .loop .inv .0 in
+    whichever (count.Counted (s .loop .n)) (s .loop .entries) (s .before .before .before .args .body .now) (b .0) (b .1)
+    (all-entered (s .loop .at) (s .loop .n) (s .loop .entries) (s .before .before .before .args .body .now) (b .0) (b .2) (c .loop-test .left))
 
 pub enter-spec : {M : Type 1} → statement M
 enter-spec =

@@ -38,8 +38,11 @@ same-length c = search needs
 returns : tie.Need-returns
 returns c =
     let run = c .before .before .before .before .before .before .before .before .args .run .now in
-    let k = key-kept run (c .before .before .before .t .given .0 .0) (sym (ap tileCase (c .before .before .before .t .given .1)) ∙ c .before .before .before .before .before .tile-of .ensures) in
-    (k .0, ap (λ (e : ℕ). set (c .before .before .before .before .before .before .before .before .args .entries .now) (c .before .before .before .before .before .before .before .before .args .n) e) (c .entry .ensures ∙ k .2))
+    let k = key-kept run (c .before .before .before .t .given .0 .0) (sym (ap tileCase (c .before .before .before .t .given .1)) ∙ c .before .before .before .before .before .tile-of .ensures) in (
+      k .0,
+      ap (λ (e : ℕ). set (c .before .before .before .before .before .before .before .before .args .entries .now)
+          (c .before .before .before .before .before .before .before .before .args .n) e) (c .entry .ensures ∙ k .2),
+    )
 
 returns-2 : tie.Need-returns-2
 returns-2 c =

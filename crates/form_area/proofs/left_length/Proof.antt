@@ -16,10 +16,12 @@ enum-told : tie.Need-enum-told
 enum-told c = search needs
 
 returns : tie.Need-returns
-returns c = let b = c .before .before .before .before .before .args .body .now in left-length (c .before .n .given .0 .0) b (subst (λ e. FormEnds e b) (c .before .n .given .1) (c .before .before .before .form-end .ensures))
+returns c = let b = c .before .before .before .before .before .args .body .now in
+    left-length (c .before .n .given .0 .0) b (subst (λ e. FormEnds e b) (c .before .n .given .1) (c .before .before .before .form-end .ensures))
 
 returns-2 : tie.Need-returns-2
-returns-2 c = let b = c .before .before .before .before .args .body .now in λ f g p. absurd (left-there b (subst (λ e. FormEnds e b) (c .enum-told .given .1) (c .before .before .form-end .ensures)) f g p)
+returns-2 c = let b = c .before .before .before .before .args .body .now in
+    λ f g p. absurd (left-there b (subst (λ e. FormEnds e b) (c .enum-told .given .1) (c .before .before .form-end .ensures)) f g p)
 
 pub left-length-spec : {M : Type 1} → statement M
 left-length-spec = tie.close (tie.spec form-end-requires enum-known-n enum-told returns returns-2)

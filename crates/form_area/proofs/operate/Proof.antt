@@ -28,19 +28,25 @@ same-length : tie.Need-same-length
 same-length c = search needs
 
 returns : tie.Need-returns
-returns c = let a = c .before .before .before .before .before .before .before .before .before .args in c .before .before .union .ensures ∙ ap (λ (v : Verb). operated v (a .a .now) (a .b .now) (a .list .now)) (sym (c .before .before .before .before .enum-told .given .1))
+returns c = let a = c .before .before .before .before .before .before .before .before .before .args in
+    c .before .before .union .ensures
+    ∙ ap (λ (v : Verb). operated v (a .a .now) (a .b .now) (a .list .now)) (sym (c .before .before .before .before .enum-told .given .1))
 
 same-length-2 : tie.Need-same-length-2
 same-length-2 c = search needs
 
 returns-2 : tie.Need-returns-2
-returns-2 c = let a = c .before .before .before .before .before .before .before .before .before .args in c .before .before .common-part .ensures ∙ ap (λ (v : Verb). operated v (a .a .now) (a .b .now) (a .list .now)) (sym (c .before .before .before .before .enum-told2 .given .1))
+returns-2 c = let a = c .before .before .before .before .before .before .before .before .before .args in
+    c .before .before .common-part .ensures
+    ∙ ap (λ (v : Verb). operated v (a .a .now) (a .b .now) (a .list .now)) (sym (c .before .before .before .before .enum-told2 .given .1))
 
 same-length-3 : tie.Need-same-length-3
 same-length-3 c = search needs
 
 returns-3 : tie.Need-returns-3
-returns-3 c = let a = c .before .before .before .before .before .before .before .before .before .args in c .before .before .difference .ensures ∙ ap (λ (v : Verb). operated v (a .a .now) (a .b .now) (a .list .now)) (sym (c .before .before .before .before .enum-told3 .given .1))
+returns-3 c = let a = c .before .before .before .before .before .before .before .before .before .args in
+    c .before .before .difference .ensures
+    ∙ ap (λ (v : Verb). operated v (a .a .now) (a .b .now) (a .list .now)) (sym (c .before .before .before .before .enum-told3 .given .1))
 
 pub operate-spec : {M : Type 1} → statement M
 operate-spec =

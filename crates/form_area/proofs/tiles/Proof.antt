@@ -27,7 +27,8 @@ enum-known-n : tie.Need-enum-known-n
 enum-known-n c = search needs
 
 counted : (c : tie.After-n) → AllEntered (c .before .before .before .before .before .before .before .args .body .now) (count.Counted (c .n .given .0 .0)) (c .before .before .before .enter .last .1 .0)
-counted c = subst (λ (r : Count). AllEntered (c .before .before .before .before .before .before .before .args .body .now) r (c .before .before .before .enter .last .1 .0)) (c .n .given .1) (c .before .before .before .enter .ensures)
+counted c = subst (λ (r : Count). AllEntered (c .before .before .before .before .before .before .before .args .body .now) r
+    (c .before .before .before .enter .last .1 .0)) (c .n .given .1) (c .before .before .before .enter .ensures)
 
 places-for : (c : tie.Else1) → c .before .before .n .given .0 .0 ≤ length (c .before .before .before .before .before .enter .last .1 .0)
 places-for c = omega (arith, c .if1 .left, c .before .before .before .before .before .enter .kept .1 .0, length-replicate {A = ℕ} 256 0)
@@ -78,7 +79,8 @@ returns-3 c =
     record {
       within = omega arith;
       area = λ runs k. bad-key-area runs (c .before .why .given .0 .0) (a .args .list .now)
-          (subst (λ (r : Count). AllEntered (a .args .body .now) r (c .before .before .before .before .enter .last .1 .0)) (c .before .why .given .1) (c .before .before .before .before .enter .ensures) runs k);
+          (subst (λ (r : Count). AllEntered (a .args .body .now) r (c .before .before .before .before .enter .last .1 .0)) (c .before .why .given .1)
+          (c .before .before .before .before .enter .ensures) runs k);
     }
 
 pub tiles-spec : {M : Type 1} → statement M

@@ -25,7 +25,9 @@ same-length : tie.Need-same-length
 same-length c = search needs
 
 returns-2 : tie.Need-returns-2
-returns-2 c = let a = c .before .before .before .before .before .before .before .args in written-done (a .list .now) (a .out .now) _ refl (c .before .before .before .before .if1 .left) refl (ap (λ (l : List ℕ). l ++ drop (length (a .list .now)) (a .out .now)) (c .before .before .copy .ensures))
+returns-2 c = let a = c .before .before .before .before .before .before .before .args in
+    written-done (a .list .now) (a .out .now) _ refl (c .before .before .before .before .if1 .left) refl
+    (ap (λ (l : List ℕ). l ++ drop (length (a .list .now)) (a .out .now)) (c .before .before .copy .ensures))
 
 pub written-spec : {M : Type 1} → statement M
 written-spec =

@@ -32,7 +32,14 @@ add-n-2 c =
     omega (arith, c .before .number-length .ensures, c .keys-length .ensures, keys-short list f, decimal-short (length list) (few-digits list f))
 
 returns : tie.Need-returns
-returns c = written-short (listText (c .before .before .before .before .before .args .list .now)) _ refl (omega (arith, c .if1 .taken, list-length (c .before .before .before .before .before .args .list .now), c .before .before .number-length .ensures, c .before .keys-length .ensures))
+returns c = written-short (listText (c .before .before .before .before .before .args .list .now)) _ refl
+    (omega (
+      arith,
+      c .if1 .taken,
+      list-length (c .before .before .before .before .before .args .list .now),
+      c .before .before .number-length .ensures,
+      c .before .keys-length .ensures,
+    ))
 
 slice-write-out : tie.Need-slice-write-out
 slice-write-out c = search needs
@@ -48,8 +55,17 @@ numbered c = stored-behind (one-stored opening 0 _) (c .put-number .ensures)
 put-keys-requires : tie.Need-put-keys-requires
 put-keys-requires c κs =
     let a = c .before .before .before in
-    let s = a .before .before .before .before .before .before .before in
-    (s .pre, omega (arith, stored-length (numbered a), a .put-number .ensures .behind, a .before .before .if1 .left, a .before .before .before .before .number-length .ensures, a .before .before .before .keys-length .ensures))
+    let s = a .before .before .before .before .before .before .before in (
+      s .pre,
+      omega (
+        arith,
+        stored-length (numbered a),
+        a .put-number .ensures .behind,
+        a .before .before .if1 .left,
+        a .before .before .before .before .number-length .ensures,
+        a .before .before .before .keys-length .ensures,
+      ),
+    )
 
 keyed : (c : tie.After-put-keys)
     → let s = c .before .before .before .before .before .before .before .before .before .before .before in
@@ -60,13 +76,23 @@ slice-write-out-2 : tie.Need-slice-write-out-2
 slice-write-out-2 c =
     let a = c .before .before in
     let n = a .before .before .before .before in
-    omega (arith, stored-length (keyed a), a .put-keys .ensures .behind, n .put-number .ensures .behind, n .before .before .if1 .left, n .before .before .before .before .number-length .ensures, n .before .before .before .keys-length .ensures)
+    omega (
+      arith,
+      stored-length (keyed a),
+      a .put-keys .ensures .behind,
+      n .put-number .ensures .behind,
+      n .before .before .if1 .left,
+      n .before .before .before .before .number-length .ensures,
+      n .before .before .before .keys-length .ensures,
+    )
 
 all-stored : (c : tie.After-slice-known3)
     → let s = c .before .before .before .before .before .before .before .before .before .before .before .before .before in
     Stored (listText (s .args .list .now)) 0 (c .before .before .put-keys .result + 1) (s .args .out .now)
     (set (c .before .before .put-keys .last .1 .1 .0) (c .before .before .put-keys .result) closing)
-all-stored c = stored-same (list-text (c .before .before .before .before .before .before .before .before .before .before .before .before .before .args .list .now)) (stored-behind (keyed (c .before .before)) (one-stored closing _ _))
+all-stored c = stored-same
+    (list-text (c .before .before .before .before .before .before .before .before .before .before .before .before .before .args .list .now))
+    (stored-behind (keyed (c .before .before)) (one-stored closing _ _))
 
 same-length : tie.Need-same-length
 same-length c = stored-length (all-stored c)

@@ -43,8 +43,16 @@ add-put-key c =
 put-key-requires : tie.Need-put-key-requires Inv-loop μ-loop
 put-key-requires c κs =
     let s = c .before .before .before in
-    let list = s .before .before .before .args .list .now in
-    (fits-entry _ _ (s .before .before .before .pre .0) (c .before .before .loop-test .taken), rw length-set (omega (arith, stored-length (s .loop .inv .1), s .loop .inv .1 .behind, keys-within list (s .loop .i) (c .before .before .loop-test .taken), s .before .before .before .pre .1)))
+    let list = s .before .before .before .args .list .now in (
+      fits-entry _ _ (s .before .before .before .pre .0) (c .before .before .loop-test .taken),
+      rw length-set (omega (
+        arith,
+        stored-length (s .loop .inv .1),
+        s .loop .inv .1 .behind,
+        keys-within list (s .loop .i) (c .before .before .loop-test .taken),
+        s .before .before .before .pre .1,
+      )),
+    )
 
 add-i : tie.Need-add-i Inv-loop μ-loop
 add-i c = search needs
@@ -54,8 +62,11 @@ loop-less c = search needs
 
 loop-again : tie.Need-loop-again Inv-loop μ-loop
 loop-again c =
-    let s = c .before .before .before .before .before .before in
-    (omega arith, key-stored (s .before .before .before .args .list .now) (s .loop .i) (c .before .before .before .before .before .loop-test .taken) (s .loop .inv .1) (c .before .before .put-key .ensures))
+    let s = c .before .before .before .before .before .before in (
+      omega arith,
+      key-stored (s .before .before .before .args .list .now) (s .loop .i) (c .before .before .before .before .before .loop-test .taken)
+          (s .loop .inv .1) (c .before .before .put-key .ensures),
+    )
 
 same-length : tie.Need-same-length Inv-loop μ-loop
 same-length c = stored-length (c .before .loop .inv .1)

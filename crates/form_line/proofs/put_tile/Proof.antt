@@ -71,7 +71,12 @@ module _ (c : tie.After-xyz2quadkey) where
   counted p = written-counted key part _ (on-map-accepted (begun .pre .0)) (sym (ap (λ (r : Count). left r (c .xyz2quadkey .last .1 .1 .1 .0)) p) ∙ wrote)
 
   fine : {why : Refusal} → c .xyz2quadkey .result ≡ Refused why → ⊥
-  fine {why} p = omega (arith, written-not key part (c .xyz2quadkey .last .1 .1 .1 .0) (on-map-accepted (begun .pre .0)) why (sym (ap (λ (r : Count). left r (c .xyz2quadkey .last .1 .1 .1 .0)) p) ∙ wrote), room)
+  fine {why} p = omega (
+    arith,
+    written-not key part (c .xyz2quadkey .last .1 .1 .1 .0) (on-map-accepted (begun .pre .0)) why
+        (sym (ap (λ (r : Count). left r (c .xyz2quadkey .last .1 .1 .1 .0)) p) ∙ wrote),
+    room,
+  )
 
 add-result-2 : tie.Need-add-result-2
 add-result-2 c =

@@ -32,7 +32,14 @@ add-n-2 c = omega (arith, c .number-length .ensures, decimal-short (c .before .n
 returns : tie.Need-returns
 returns c =
     let s = c .before .before .before .before in
-    written-short (refusalText (numberOf (s .args .why))) _ refl (omega (arith, c .if1 .taken, refusal-length (numberOf (s .args .why)), c .before .number-length .ensures, ap (λ (n : ℕ). length (decimal n)) (c .before .before .number .ensures)))
+    written-short (refusalText (numberOf (s .args .why))) _ refl
+    (omega (
+      arith,
+      c .if1 .taken,
+      refusal-length (numberOf (s .args .why)),
+      c .before .number-length .ensures,
+      ap (λ (n : ℕ). length (decimal n)) (c .before .before .number .ensures),
+    ))
 
 slice-aggregate-put : tie.Need-slice-aggregate-put
 slice-aggregate-put c = search needs

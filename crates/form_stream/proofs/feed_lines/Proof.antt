@@ -18,7 +18,8 @@ use Rattle.form_stream.proofs.feed_lines.Statement.{statement}
 use Rattle.form_stream.proofs.feed_lines.Tie as tie
 
 abbrev Inv-loop : tie.InvT-loop
-Inv-loop chunk from line₀ len out₀ held₀ filled₀ i₀ line out held filled i = (length line ≡ length line₀) × (length out ≡ length out₀) × Goes chunk (scanAt from len 0 line₀ out₀) i held filled line out
+Inv-loop chunk from line₀ len out₀ held₀ filled₀ i₀ line out held filled i =
+    (length line ≡ length line₀) × (length out ≡ length out₀) × Goes chunk (scanAt from len 0 line₀ out₀) i held filled line out
 
 abbrev μ-loop : tie.MeasureT-loop
 μ-loop chunk from line₀ len out₀ held₀ filled₀ i₀ line out held filled i = length chunk - i
@@ -43,7 +44,8 @@ module _ (c : tie.After-take-line Inv-loop μ-loop) where
   abbrev after : List ℕ
   after = c .take-line .last .1 .1 .0
 
-  fed : Goes (top .args .chunk .now) (scanAt (top .args .from) (top .args .len) 0 (top .args .line .now) (top .args .out .now)) (c .take-line .result .at) (c .take-line .result .len) (begun .loop .filled) after (begun .loop .out)
+  fed : Goes (top .args .chunk .now) (scanAt (top .args .from) (top .args .len) 0 (top .args .line .now) (top .args .out .now)) (c .take-line .result .at)
+      (c .take-line .result .len) (begun .loop .filled) after (begun .loop .out)
   fed = goes-on _ _ _ _ _ _ _ (begun .loop .inv .2) after (c .take-line .result) (c .take-line .ensures .0)
 
   line-same : length after ≡ length (top .args .line .now)
@@ -108,7 +110,15 @@ enum-known-m c = search needs
 add-filled : tie.Need-add-filled Inv-loop μ-loop
 add-filled c =
     let r = c .before .before .before .before .before in
-    omega (arith, written-within (reply (take (taken r .take-line .result .len) (after (taken r)))) (partFrom (begun (taken r) .loop .filled) (begun (taken r) .loop .out)) (part r) refl (replied r (c .before .m .given .1)), part-same r, fed (taken r) .room, begun (taken r) .loop .inv .1, top (taken r) .good)
+    omega (
+      arith,
+      written-within (reply (take (taken r .take-line .result .len) (after (taken r))))
+          (partFrom (begun (taken r) .loop .filled) (begun (taken r) .loop .out)) (part r) refl (replied r (c .before .m .given .1)),
+      part-same r,
+      fed (taken r) .room,
+      begun (taken r) .loop .inv .1,
+      top (taken r) .good,
+    )
 
 add-i : tie.Need-add-i Inv-loop μ-loop
 add-i c = search needs

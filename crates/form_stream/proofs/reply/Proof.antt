@@ -19,9 +19,13 @@ some-room c = omega (arith, c .if1 .left)
 
 -- the answer stands in the part that was lent
 answered : {r : Count} (c : tie.After-answer) → c .answer .result ≡ r
-    → left r (c .answer .last .1 .0) ≡ lineWritten (c .before .before .before .before .before .args .line .now) (take (length (c .before .before .before .before .before .args .out .now) - 1) (c .before .before .before .before .before .args .out .now))
+    → left r (c .answer .last .1 .0)
+    ≡ lineWritten (c .before .before .before .before .before .args .line .now)
+    (take (length (c .before .before .before .before .before .args .out .now) - 1) (c .before .before .before .before .before .args .out .now))
 answered c e =
-    subst (λ (r : Count). left r (c .answer .last .1 .0) ≡ lineWritten (c .before .before .before .before .before .args .line .now) (take (length (c .before .before .before .before .before .args .out .now) - 1) (c .before .before .before .before .before .args .out .now))) e
+    subst (λ (r : Count). left r (c .answer .last .1 .0)
+    ≡ lineWritten (c .before .before .before .before .before .args .line .now)
+    (take (length (c .before .before .before .before .before .args .out .now) - 1) (c .before .before .before .before .before .args .out .now))) e
     (c .answer .ensures)
 
 lent-length : (c : tie.After-answer) → length (c .answer .last .1 .0) ≡ length (c .before .before .before .before .before .args .out .now) - 1
@@ -32,7 +36,8 @@ inside c =
     let a = c .before .before .before .before .before .before .before .before .before .args in
     omega (
       arith,
-      written-within (printed (lineArea (a .line .now))) (take (length (a .out .now) - 1) (a .out .now)) (c .before .before .before .before .answer .last .1 .0) refl (answered (c .before .before .before .before) (c .n .given .1)),
+      written-within (printed (lineArea (a .line .now))) (take (length (a .out .now) - 1) (a .out .now))
+          (c .before .before .before .before .answer .last .1 .0) refl (answered (c .before .before .before .before) (c .n .given .1)),
       lent-length (c .before .before .before .before),
       some-room (c .before .before .before .before .before .before),
     )
@@ -56,7 +61,15 @@ enum-known-n : tie.Need-enum-known-n
 enum-known-n c = search needs
 
 slice-write-out : tie.Need-slice-write-out
-slice-write-out c = let o = c .before .before .before .before .before .before .before .before .before .before .args .out .now in omega (arith, inside (c .before), length-append (c .before .before .before .before .before .answer .last .1 .0) (drop (length o - 1) o), length-drop (length o - 1) o, lent-length (c .before .before .before .before .before), some-room (c .before .before .before .before .before .before .before))
+slice-write-out c = let o = c .before .before .before .before .before .before .before .before .before .before .args .out .now in
+    omega (
+      arith,
+      inside (c .before),
+      length-append (c .before .before .before .before .before .answer .last .1 .0) (drop (length o - 1) o),
+      length-drop (length o - 1) o,
+      lent-length (c .before .before .before .before .before),
+      some-room (c .before .before .before .before .before .before .before),
+    )
 
 add-t13 : tie.Need-add-t13
 add-t13 c = omega (arith, inside (c .before), c .before .before .before .before .before .before .before .before .before .before .good)
@@ -68,13 +81,19 @@ same-length : tie.Need-same-length
 same-length c = search needs
 
 returns-2 : tie.Need-returns-2
-returns-2 c = let a = c .before .before .before .before .before .before .before .before .before .before .args in newline-behind (a .line .now) (a .out .now) (c .before .before .before .before .before .answer .last .1 .0) (length (a .out .now) - 1) (some-room (c .before .before .before .before .before .before .before)) (c .before .n .given .0 .0) (answered (c .before .before .before .before .before) (c .before .n .given .1)) (c .before .before .before .before .before .answer .kept .1 .0)
+returns-2 c = let a = c .before .before .before .before .before .before .before .before .before .before .args in
+    newline-behind (a .line .now) (a .out .now) (c .before .before .before .before .before .answer .last .1 .0) (length (a .out .now) - 1)
+    (some-room (c .before .before .before .before .before .before .before)) (c .before .n .given .0 .0)
+    (answered (c .before .before .before .before .before) (c .before .n .given .1)) (c .before .before .before .before .before .answer .kept .1 .0)
 
 same-length-2 : tie.Need-same-length-2
 same-length-2 c = search needs
 
 returns-3 : tie.Need-returns-3
-returns-3 c = let a = c .before .before .before .before .before .before .before .before .before .args in no-answer (a .line .now) (a .out .now) (c .before .before .before .before .answer .last .1 .0) (length (a .out .now) - 1) (some-room (c .before .before .before .before .before .before)) (c .enum-told .given .0 .0) (answered (c .before .before .before .before) (c .enum-told .given .1))
+returns-3 c = let a = c .before .before .before .before .before .before .before .before .before .args in
+    no-answer (a .line .now) (a .out .now) (c .before .before .before .before .answer .last .1 .0) (length (a .out .now) - 1)
+    (some-room (c .before .before .before .before .before .before)) (c .enum-told .given .0 .0)
+    (answered (c .before .before .before .before) (c .enum-told .given .1))
 
 pub reply-spec : {M : Type 1} → statement M
 reply-spec =

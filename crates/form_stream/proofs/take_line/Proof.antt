@@ -42,8 +42,13 @@ loop-less c = search needs
 loop-again : tie.Need-loop-again Inv-loop μ-loop
 loop-again c =
     let s = c .before .before .before .before .before .before .before in
-    let k = c .before .before .keep in
-    (omega arith, k .kept .1 .0 ∙ s .loop .inv .1, byte-taken _ _ _ _ _ _ _ _ _ (s .loop .inv .2) (s .loop .inv .1 ∙ s .before .before .before .pre .1 .0) (c .before .before .before .before .before .before .loop-test .taken) (c .before .before .before .before .if1 .left) (k .ensures))
+    let k = c .before .before .keep in (
+      omega arith,
+      k .kept .1 .0
+          ∙ s .loop .inv .1,
+      byte-taken _ _ _ _ _ _ _ _ _ (s .loop .inv .2) (s .loop .inv .1 ∙ s .before .before .before .pre .1 .0)
+          (c .before .before .before .before .before .before .loop-test .taken) (c .before .before .before .before .if1 .left) (k .ensures),
+    )
 
 same-length-2 : tie.Need-same-length-2 Inv-loop μ-loop
 same-length-2 c = c .before .loop .inv .1

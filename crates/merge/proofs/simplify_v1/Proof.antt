@@ -21,7 +21,8 @@ returns : tie.Need-returns
 returns c =
     let a = c .before .before .before .before .before .before .before .before .args in
     rw (← c .before .before .before .before .before .unwrap-or .ensures)
-    (counted-left (c .before .before .before .run .result) (c .counted .result) SimplifyV1 (a .list .now) (c .before .before .before .before .before .unwrap-or .result) (a .out .now) _ (c .counted .ensures) (c .before .before .before .run .ensures))
+    (counted-left (c .before .before .before .run .result) (c .counted .result) SimplifyV1 (a .list .now)
+    (c .before .before .before .before .before .unwrap-or .result) (a .out .now) _ (c .counted .ensures) (c .before .before .before .run .ensures))
 
 pub simplify-v1-spec : {M : Type 1} → statement M
 simplify-v1-spec =

@@ -33,13 +33,15 @@ returns-2 : tie.Need-returns-2
 returns-2 c =
     let a = c .before .before .before .before .before .before .before .before .before .before .args in
     let k = c .before .before .before .before .keys in
-    no-room (a .work) (a .list .now) (a .m) (a .out .now) (c .before .before .before .before .before .before .before .before .before .before .pre .1) (keys-fine _ _ _ _ (k .ensures) (c .before .if1 .left)) (c .if2 .taken)
+    no-room (a .work) (a .list .now) (a .m) (a .out .now) (c .before .before .before .before .before .before .before .before .before .before .pre .1)
+    (keys-fine _ _ _ _ (k .ensures) (c .before .if1 .left)) (c .if2 .taken)
 
 slice-relend-prefix-worked : tie.Need-slice-relend-prefix-worked
 slice-relend-prefix-worked c = search needs
 
 slice-aggregate-worked : tie.Need-slice-aggregate-worked
-slice-aggregate-worked c = let a = c .before .before .before .before .before .before .before .before .before .before .before .before .args in sym (length-take-le (length (a .list .now)) (a .out .now) (c .before .before .if2 .left))
+slice-aggregate-worked c = let a = c .before .before .before .before .before .before .before .before .before .before .before .before .args in
+    sym (length-take-le (length (a .list .now)) (a .out .now) (c .before .before .if2 .left))
 
 worked-requires : tie.Need-worked-requires
 worked-requires c κs =
@@ -63,7 +65,11 @@ returns-3 c =
     let k = c .before .before .before .before .before .before .before .before .before .before .before .keys in
     let w = c .before .before .before .before .worked in
     let f = c .before .before .before .before .before .before .before .before .if1 .left in
-    done (a .work) (a .list .now) _ (a .m) (a .out .now) _ (w .result) (c .before .before .before .before .before .before .before .before .before .before .before .before .before .before .before .before .before .pre .1) (keys-fine _ _ _ _ (k .ensures) f) (c .before .before .before .before .before .before .before .if2 .left) (keys-left _ _ _ _ (k .ensures) (a .work) f (c .before .before .before .before .before .before .before .before .before .before .before .before .sorted-by .ensures)) (w .ensures)
+    done (a .work) (a .list .now) _ (a .m) (a .out .now) _ (w .result)
+    (c .before .before .before .before .before .before .before .before .before .before .before .before .before .before .before .before .before .pre .1)
+    (keys-fine _ _ _ _ (k .ensures) f) (c .before .before .before .before .before .before .before .if2 .left)
+    (keys-left _ _ _ _ (k .ensures) (a .work) f
+    (c .before .before .before .before .before .before .before .before .before .before .before .before .sorted-by .ensures)) (w .ensures)
 
 pub work-in-spec : {M : Type 1} → statement M
 work-in-spec =

@@ -20,19 +20,22 @@ enum-told : tie.Need-enum-told
 enum-told c = search needs
 
 merged-requires : tie.Need-merged-requires
-merged-requires c κs = let a = c .before .before .before .before .before .before .args in asked (a .work) _ (a .keys .now) (a .out .now) (c .before .before .enum-told .given .1) (c .before .before .before .before .before .before .pre)
+merged-requires c κs = let a = c .before .before .before .before .before .before .args in
+    asked (a .work) _ (a .keys .now) (a .out .now) (c .before .before .enum-told .given .1) (c .before .before .before .before .before .before .pre)
 
 enum-told-2 : tie.Need-enum-told-2
 enum-told-2 c = search needs
 
 simplified-v1-requires : tie.Need-simplified-v1-requires
-simplified-v1-requires c κs = let a = c .before .before .before .before .before .before .args in asked (a .work) _ (a .keys .now) (a .out .now) (c .before .before .enum-told2 .given .1) (c .before .before .before .before .before .before .pre)
+simplified-v1-requires c κs = let a = c .before .before .before .before .before .before .args in
+    asked (a .work) _ (a .keys .now) (a .out .now) (c .before .before .enum-told2 .given .1) (c .before .before .before .before .before .before .pre)
 
 enum-told-3 : tie.Need-enum-told-3
 enum-told-3 c = search needs
 
 simplified-requires : tie.Need-simplified-requires
-simplified-requires c κs = let a = c .before .before .before .before .before .before .args in asked (a .work) _ (a .keys .now) (a .out .now) (c .before .before .enum-told3 .given .1) (c .before .before .before .before .before .before .pre)
+simplified-requires c κs = let a = c .before .before .before .before .before .before .args in
+    asked (a .work) _ (a .keys .now) (a .out .now) (c .before .before .enum-told3 .given .1) (c .before .before .before .before .before .before .pre)
 
 same-length : tie.Need-same-length
 same-length c = search needs

@@ -16,7 +16,9 @@ around-requires : tie.Need-around-requires
 around-requires c κs = search needs
 
 returns : tie.Need-returns
-returns c = rw (c .before .match .keys1) (none-written (tileRefusal (c .before .before .before .args .x) (c .before .before .before .args .y) 0) (c .none .result) _ (rw (c .before .match .keys1) at (c .none .ensures)))
+returns c = rw (c .before .match .keys1)
+    (none-written (tileRefusal (c .before .before .before .args .x) (c .before .before .before .args .y) 0) (c .none .result) _
+    (rw (c .before .match .keys1) at (c .none .ensures)))
 
 same-length : tie.Need-same-length
 same-length c = search needs
@@ -24,7 +26,8 @@ same-length c = search needs
 returns-2 : tie.Need-returns-2
 returns-2 c =
     let a = c .before .before .before .before .before .before .args in
-    rw (← else-none (tileRefusal (a .x) (a .y) (a .z)), c .before .before .before .before .match .keys2) (rw (c .before .before .before .before .match .keys2) at (c .before .before .siblings .ensures))
+    rw (← else-none (tileRefusal (a .x) (a .y) (a .z)), c .before .before .before .before .match .keys2)
+    (rw (c .before .before .before .before .match .keys2) at (c .before .before .siblings .ensures))
 
 same-length-2 : tie.Need-same-length-2
 same-length-2 c = search needs

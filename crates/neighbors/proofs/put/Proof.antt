@@ -26,7 +26,9 @@ mul-out : tie.Need-mul-out
 mul-out c = search needs
 
 room : (c : tie.After-known-told) → c .before .before .before .before .args .n < length (c .before .before .before .before .args .out .now)
-room c = rw add-one at (subst (λ (s : Spot). c .before .before .before .before .args .n + length (spotTiles (c .before .before .before .before .args .z) s) ≤ length (c .before .before .before .before .args .out .now)) (c .before .spot .given .1) (c .before .before .before .before .pre .1))
+room c = rw add-one at
+    (subst (λ (s : Spot). c .before .before .before .before .args .n + length (spotTiles (c .before .before .before .before .args .z) s)
+    ≤ length (c .before .before .before .before .args .out .now)) (c .before .spot .given .1) (c .before .before .before .before .pre .1))
 
 slice-write-out : tie.Need-slice-write-out
 slice-write-out c = omega (arith, room (c .before))

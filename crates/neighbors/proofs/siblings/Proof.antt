@@ -47,7 +47,9 @@ returns-3 c =
     written-short (entriesOf (siblingsOf (a .x) (a .y) (a .z))) _ e (c .if2 .taken)
 
 -- behind the tests: the tile is one of the map and not the root, and so its siblings are tiles of the map
-fine : (c : tie.Else2) → tileRefusal (c .before .before .before .before .before .before .args .x) (c .before .before .before .before .before .before .args .y) (c .before .before .before .before .before .before .args .z) ≡ 0
+fine : (c : tie.Else2)
+    → tileRefusal (c .before .before .before .before .before .before .args .x) (c .before .before .before .before .before .before .args .y)
+    (c .before .before .before .before .before .before .args .z) ≡ 0
 fine c = check-fine (c .before .before .enum-told .given .1) (c .before .before .before .before .check .ensures)
 
 column : {x y z n : ℕ} → OnMap x y z → 0 < z → n ≡ other x → OnMap n y z
@@ -56,7 +58,9 @@ column {x = x} {z = z} m p e = record { zoom = m .zoom; column = rw e (other-sma
 row : {x y z n : ℕ} → OnMap x y z → 0 < z → n ≡ other y → OnMap x n z
 row {y = y} {z = z} m p e = record { zoom = m .zoom; column = m .column; row = rw e (other-small y z p (m .row)) }
 
-on-map : (c : tie.Else2) → OnMap (c .before .before .before .before .before .before .args .x) (c .before .before .before .before .before .before .args .y) (c .before .before .before .before .before .before .args .z)
+on-map : (c : tie.Else2)
+    → OnMap (c .before .before .before .before .before .before .args .x) (c .before .before .before .before .before .before .args .y)
+    (c .before .before .before .before .before .before .args .z)
 on-map c = accepted-on-map _ _ _ (fine c)
 
 deep : (c : tie.Else2) → 0 < c .before .before .before .before .before .before .args .z

@@ -12,7 +12,9 @@ sort-into-requires c κs = search needs
 
 settle-requires : tie.Need-settle-requires
 settle-requires c κs =
-    let l = c .before .before .before .before .before .before .before .before .before .before .args .places .now in rw (c .before .before .before .before .before .sort-into .ensures) (sort-numbers placeOf l (c .before .before .before .before .before .before .before .before .before .before .pre .0), sorted-by l)
+    let l = c .before .before .before .before .before .before .before .before .before .before .args .places .now in
+    rw (c .before .before .before .before .before .sort-into .ensures)
+    (sort-numbers placeOf l (c .before .before .before .before .before .before .before .before .before .before .pre .0), sorted-by l)
 
 finish-requires : tie.Need-finish-requires
 finish-requires c κs = search needs
@@ -25,8 +27,12 @@ same-length-2 c = search needs
 
 returns : tie.Need-returns
 returns c =
-    let a = c .before .before .before .before .before .before .before .before .before .before .before .before .before .before .before .before .before .before .before .before .args in
-    settled-listed (a .m) (a .places .now) _ _ _ _ (c .before .before .before .before .before .before .before .before .before .before .before .before .before .before .before .before .before .before .before .before .pre .0) (rw (c .before .before .before .before .before .before .before .before .before .before .before .before .before .before .before .sort-into .ensures) at (c .before .before .before .before .before .before .before .before .before .settle .ensures)) (c .before .before .before .before .finish .ensures)
+    let finished = c .before .before .before .before in
+    let settled = finished .before .before .before .before .before in
+    let sorted = settled .before .before .before .before .before .before in
+    let start = sorted .before .before .before .before .before in
+    settled-listed (start .args .m) (start .args .places .now) _ _ _ _ (start .pre .0)
+    (rw (sorted .sort-into .ensures) at (settled .settle .ensures)) (finished .finish .ensures)
 
 pub simplified-spec : {M : Type 1} → statement M
 simplified-spec =

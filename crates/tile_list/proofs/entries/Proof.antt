@@ -24,7 +24,10 @@ slice-aggregate-entries c = let o = c .before .before .before .once in sym (leng
 entries-requires : tie.Need-entries-requires
 entries-requires c κs =
     let a = c .before .before .before .before .before .before .before .before .before .before .before .before .before .before .before .before .before .before .args in
-    front-ranks (a .placed) (a .keys .now) _ _ _ _ (c .before .before .before .before .before .before .before .before .before .before .before .before .before .before .before .before .before .before .pre) (c .before .before .before .before .before .before .before .before .before .before .before .before .before .before .ranks .ensures) (c .before .before .before .before .before .before .before .before .before .sort .ensures) (c .before .before .before .once .ensures)
+    front-ranks (a .placed) (a .keys .now) _ _ _ _
+    (c .before .before .before .before .before .before .before .before .before .before .before .before .before .before .before .before .before .before .pre)
+    (c .before .before .before .before .before .before .before .before .before .before .before .before .before .before .ranks .ensures)
+    (c .before .before .before .before .before .before .before .before .before .sort .ensures) (c .before .before .before .once .ensures)
 
 same-length : tie.Need-same-length
 same-length c = search needs
@@ -34,8 +37,12 @@ same-length-2 c = search needs
 
 returns : tie.Need-returns
 returns c =
-    let a = c .before .before .before .before .before .before .before .before .before .before .before .before .before .before .before .before .before .before .before .before .before .args in
-    front-entries (a .placed) (a .keys .now) _ _ _ _ (c .before .before .before .before .before .before .before .before .before .before .before .before .before .before .before .before .before .before .before .before .before .pre) (c .before .before .before .before .before .before .before .before .before .before .before .before .before .before .before .before .before .ranks .ensures) (c .before .before .before .before .before .before .before .before .before .before .before .before .sort .ensures) (c .before .before .before .before .before .before .once .ensures) _ _ (c .before .before .entries .ensures)
+    let once = c .before .before .before .before .before .before in
+    let sorted = once .before .before .before .before .before .before in
+    let ranked = sorted .before .before .before .before .before in
+    let start = ranked .before .before .before .before in
+    front-entries (start .args .placed) (start .args .keys .now) _ _ _ _
+    (start .pre) (ranked .ranks .ensures) (sorted .sort .ensures) (once .once .ensures) _ _ (c .before .before .entries .ensures)
 
 pub entries-spec : {M : Type 1} → statement M
 entries-spec =

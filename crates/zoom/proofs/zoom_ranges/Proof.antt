@@ -42,7 +42,8 @@ run-ends-requires c κs = search needs
 fill-requires-2 : tie.Need-fill-requires-2
 fill-requires-2 c κs =
     let a = c .before .before .before .before .before .before .before .before .before .before .before .before .args in
-    rw (c .before .run-ends .ensures, those-of-set (runEnds (a .zset)) (suc lastZoom), ← run-count (a .zset)) (omega (arith, count-is (c .before .before .before .before .before .before .before .before)))
+    rw (c .before .run-ends .ensures, those-of-set (runEnds (a .zset)) (suc lastZoom), ← run-count (a .zset))
+    (omega (arith, count-is (c .before .before .before .before .before .before .before .before)))
 
 same-length : tie.Need-same-length
 same-length c = search needs
@@ -58,7 +59,9 @@ returns-3 c =
       le-ltb (length (a .lows .now)) (length (runLows (a .zset))) (omega arith),
       le-ltb (length (a .highs .now)) (length (runLows (a .zset))) (omega arith),
       n,
-      filled (runStarts (a .zset)) (a .lows .now) (c .before .before .before .before .before .before .before .before .before .before .before .before .run-starts .ensures) (c .before .before .before .before .before .before .before .fill .ensures),
+      filled (runStarts (a .zset)) (a .lows .now)
+          (c .before .before .before .before .before .before .before .before .before .before .before .before .run-starts .ensures)
+          (c .before .before .before .before .before .before .before .fill .ensures),
       filled (runEnds (a .zset)) (a .highs .now) (c .before .before .before .before .run-ends .ensures) (c .before .before .fill2 .ensures),
     )
 
