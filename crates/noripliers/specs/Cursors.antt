@@ -9,8 +9,8 @@ use Rattle.parent.specs.declared.OptionTile.the-variants.{None, Some}
 use Rattle.parent.specs.declared.Parents.{Parents}
 use Rattle.tile.specs.OnMap.{tileAt}
 use Rattle.tile.specs.declared.Tile.{Tile}
-use Rattle.tile_zbox.specs.Cursor.{Step}
-use Rattle.tile_zbox_iter.specs.Cursor.{BoxesStep}
+use Rattle.tile_zbox_iter.specs.Cursor.{Step}
+use Rattle.tile_zboxes_iter.specs.Cursor.{BoxesStep}
 
 pub record Held : Type 0 where
   pub count : ℕ

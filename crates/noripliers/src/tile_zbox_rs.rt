@@ -3,20 +3,20 @@ use crate::give;
 use tile::Tile;
 use tile_zbox::BoxAnswer;
 use tile_zbox::ExtentAnswer;
-use tile_zbox::NextAnswer;
 use tile_zbox::TileZBox;
-use tile_zbox::TileZBoxIterator;
-use tile_zbox_iter::BoxesNextAnswer;
-use tile_zbox_iter::TileZBoxesIterator;
+use tile_zbox_iter::NextAnswer;
+use tile_zbox_iter::TileZBoxIterator;
+use tile_zboxes_iter::BoxesNextAnswer;
+use tile_zboxes_iter::TileZBoxesIterator;
 ghost use mathlib.Core.Path.{_≡_};
 ghost use Rattle.noripliers.specs.Cursors.{boxesStepNumbers, stepAt, stepNumbers};
 ghost use Rattle.noripliers.specs.Exported.{answered, asByte, given};
 ghost use Rattle.tile.specs.OnMap.{tileAt};
-ghost use Rattle.tile_zbox.specs.Around.{fromTilesOf};
 ghost use Rattle.tile_zbox.specs.Box.{boxAt, boxCase, boxRefusal, containsOf, dimensionsOf, dxOf, dxdyOf, dyOf, extentAt, extentCase, flipOf, fromTileOf, lengthOf, newOf, zoomDepthOf, zoomInOf};
-ghost use Rattle.tile_zbox.specs.Boxes.{boxesFlipOf, numbersLengthOf};
-ghost use Rattle.tile_zbox.specs.Cursor.{cursorAt, nextCase, nextOf};
-ghost use Rattle.tile_zbox_iter.specs.Cursor.{boxesCursorAt, boxesNextCase, boxesNextOf, sizeHintOf};
+ghost use Rattle.tile_zbox_around.specs.Around.{fromTilesOf};
+ghost use Rattle.tile_zbox_iter.specs.Cursor.{cursorAt, nextCase, nextOf, sizeHintOf};
+ghost use Rattle.tile_zbox_numbers.specs.Boxes.{boxesFlipOf, numbersLengthOf};
+ghost use Rattle.tile_zboxes_iter.specs.Cursor.{boxesCursorAt, boxesNextCase, boxesNextOf};
 
 // The box itself, where it is one of the map: no min above its max, and no max off the map.
 // Refused: 1, 10.
@@ -92,7 +92,14 @@ pub extern "C" fn nori_zbox_from_tiles(
 ) -> u8
     ensures { λ r. ⌜ answered r (boxAt (now (bz .exit)) (now (left .exit)) (now (right .exit)) (now (top .exit)) (now (bottom .exit))) ≡ fromTilesOf (now (list .entry)) ⌝ }
 {
-    give_box(TileZBox::from_tiles(list), bz, left, right, top, bottom)
+    give_box(
+        tile_zbox_around::from_tiles(list),
+        bz,
+        left,
+        right,
+        top,
+        bottom,
+    )
 }
 
 // Whether a tile lies in a box; one of another zoom does not.
@@ -447,7 +454,7 @@ pub extern "C" fn nori_zbox_size_hint(
         range,
         given: before,
     };
-    give::u64_number(tile_zbox_iter::size_hint(cursor), length)
+    give::u64_number(cursor.size_hint(), length)
 }
 
 // How many tiles several boxes have together, overlaps counted twice.
@@ -457,7 +464,7 @@ pub extern "C" fn nori_zbox_size_hint(
 pub extern "C" fn nori_zboxes_length(boxes: &[u32], length: &mut u64) -> u8
     ensures { λ r. ⌜ answered r (now (length .exit)) ≡ numbersLengthOf (now (boxes .entry)) ⌝ }
 {
-    give::u64_number(tile_zbox::boxes_length(boxes), length)
+    give::u64_number(tile_zbox_numbers::boxes_length(boxes), length)
 }
 
 // Several boxes with their rows counted from the other side of the map. Five numbers a box, as for nori_zboxes_length;
@@ -467,7 +474,7 @@ pub extern "C" fn nori_zboxes_length(boxes: &[u32], length: &mut u64) -> u8
 pub extern "C" fn nori_zboxes_flipy(boxes: &[u32], out: &mut [u32], count: &mut u64) -> u8
     ensures { λ r. ⌜ given r (now (count .exit)) (now (out .exit)) ≡ boxesFlipOf (now (boxes .entry)) (now (out .entry)) ⌝ }
 {
-    let answer = tile_zbox::boxes_flipy(boxes, out);
+    let answer = tile_zbox_numbers::boxes_flipy(boxes, out);
     give::count(answer, count)
 }
 

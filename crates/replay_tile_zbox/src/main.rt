@@ -13,16 +13,16 @@ use replay::lists;
 use replay::parts;
 use tile_zbox::BoxAnswer;
 use tile_zbox::ExtentAnswer;
-use tile_zbox::NextAnswer;
 use tile_zbox::TileZBox;
-use tile_zbox::TileZBoxIterator;
-use tile_zbox_iter::BoxesNextAnswer;
-use tile_zbox_iter::TileZBoxesIterator;
+use tile_zbox_iter::NextAnswer;
+use tile_zbox_iter::TileZBoxIterator;
+use tile_zboxes_iter::BoxesNextAnswer;
+use tile_zboxes_iter::TileZBoxesIterator;
 ghost use mathlib.Core.Path.{_≡_};
 ghost use Prim.Native.Nat.{_≤_};
 ghost use lib.ListN.{length, take};
 ghost use Rattle.errors.specs.Cases.{u64Case};
-ghost use Rattle.tile_zbox.specs.Boxes.{boxesLengthOf};
+ghost use Rattle.tile_zbox_numbers.specs.Boxes.{boxesLengthOf};
 
 enum BoxArg {
     Given(TileZBox),
@@ -102,7 +102,10 @@ fn from_tiles(given: &[u64], want: &[u64]) -> bool {
     }
     let mut room = [0u64; 64];
     entries::fill(parts::numbers(given, 1, n), &mut room);
-    same_box(TileZBox::from_tiles(parts::numbers(&room, 0, n)), want)
+    same_box(
+        tile_zbox_around::from_tiles(parts::numbers(&room, 0, n)),
+        want,
+    )
 }
 
 // The count of the boxes, then five numbers of each: they are summed as numbers, and as records.
@@ -130,7 +133,7 @@ fn numbers_length(boxes: &[u64], want: &[u64]) -> bool {
     if !narrowed(boxes, &mut room) {
         return false;
     }
-    answers::same_u64(tile_zbox::boxes_length(&room[..n]), want)
+    answers::same_u64(tile_zbox_numbers::boxes_length(&room[..n]), want)
 }
 
 // Whether the numbers fit: then the front of the room holds them.
@@ -276,7 +279,7 @@ fn size_hint(b: TileZBox, given: &[u64], want: &[u64]) -> bool {
         range: b,
         given: given[5],
     };
-    answers::same_u64(tile_zbox_iter::size_hint(cursor), want)
+    answers::same_u64(cursor.size_hint(), want)
 }
 
 fn contains_tile(b: TileZBox, given: &[u64], want: &[u64]) -> bool {

@@ -1,4 +1,5 @@
 -- A box of tiles of one zoom, both ends included: refusals 1 and 10 of whoever sends one, and what its calls promise.
+use mathlib.Core.Path.{_≡_}
 use mathlib.Core.Bool.{Bool, false, _&&_, _||_}
 use Prim.Native.Nat.{ℕ, _+_, _-_, _*_, _^_, _≤_, _<_}
 use lib.Dec.{leb, ltb, eqb}
@@ -6,11 +7,12 @@ use Rattle.constants.specs.Limits.{maxZoom}
 use Rattle.errors.specs.Answer.{Answer, answer, _when_, _else_}
 use Rattle.errors.specs.Cases.{refusedAs}
 use Rattle.tile.specs.OnMap.{tileRefusal}
+use Rattle.tile.specs.declared.Tile.{Tile}
 use Rattle.tile_zbox.specs.declared.TileZBox.{TileZBox}
 use Rattle.tile_zbox.specs.declared.Extent.{Extent}
 use Rattle.tile_zbox.specs.declared.BoxAnswer.{BoxAnswer}
-use Rattle.tile_zbox.specs.declared.BoxAnswer.the-variants as box
 use Rattle.tile_zbox.specs.declared.ExtentAnswer.{ExtentAnswer}
+use Rattle.tile_zbox.specs.declared.BoxAnswer.the-variants as box
 use Rattle.tile_zbox.specs.declared.ExtentAnswer.the-variants as extent
 
 -- the columns minx to maxx and the rows miny to maxy of a zoom
@@ -67,6 +69,14 @@ inRun n min max = leb min n && leb n max
 
 unfoldable pub inBox : TileZBox → ℕ → ℕ → ℕ → Bool
 inBox b x y z = eqb z (b .zoom) && (inRun x (b .minx) (b .maxx) && inRun y (b .miny) (b .maxy))
+
+-- a tile of the box, as a proposition
+pub record Holds (b : TileZBox) (t : Tile) : Type 0 where
+  pub zoom : t .z ≡ b .zoom
+  pub west : b .minx ≤ t .x
+  pub east : t .x ≤ b .maxx
+  pub north : b .miny ≤ t .y
+  pub south : t .y ≤ b .maxy
 
 abbrev pub containsPlaced : TileZBox → ℕ → ℕ → ℕ → Answer Bool
 containsPlaced b x y z = answer (boxRefusal b) false (inBox b x y z)

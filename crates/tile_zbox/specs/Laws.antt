@@ -1,17 +1,19 @@
--- Laws of boxes: which are refused, and that their numbers fit.
+-- Laws of boxes: which are refused, that their numbers fit, and which tiles they hold.
 use mathlib.Core.Path.{_≡_, refl}
 use mathlib.Core.Bool.{Bool, true, false, _||_}
-use Prim.Native.Nat.{ℕ, _+_, _-_, _*_, _/_, _%_, _^_, _≤_, _<_}
-use native.Mathlib.Nat.{mul-le-mul, mul-comm, mod-lt, div-lt-iff-lt-mul, lt-of-le-of-lt, lt-of-lt-of-le}
+use Prim.Native.Nat.{ℕ, _+_, _-_, _*_, _^_, _≤_, _<_}
+use native.Mathlib.Nat.{mul-le-mul, lt-of-le-of-lt, lt-of-lt-of-le}
 use native.Mathlib.Omega.{arith}
 use lib.Arith.{digits-lt}
-use lib.Dec.{leb, ltb}
+use lib.Dec.{leb, ltb, eqb}
 use lib.Pow.{pow-pos, pow-add}
-use borrow.Author.Tests.{leb-false, ltb-false, lt-leb, le-ltb, lt-ltb}
+use borrow.Author.Tests.{leb-true, leb-false, ltb-false, le-leb, lt-leb, lt-ltb, le-ltb, eqb-true, eq-eqb}
+use Rattle.bits.specs.Tests.{and-parts}
 use Rattle.constants.specs.Limits.{maxZoom}
 use Rattle.errors.specs.Answer.{_when_, _else_}
 use Rattle.tile.specs.OnMap.{side-small}
-use Rattle.tile_zbox.specs.Box.{IsBox, wrongRun, wrongEdges, boxRefusal, columnsOf, rowsOf, boxLength, zoomedIn, zoomedBy}
+use Rattle.tile.specs.declared.Tile.{Tile}
+use Rattle.tile_zbox.specs.Box.{IsBox, wrongRun, wrongEdges, boxRefusal, inRun, inBox, Holds, zoomedIn, zoomedBy, columnsOf, rowsOf, boxLength}
 use Rattle.tile_zbox.specs.declared.TileZBox.{TileZBox}
 
 -- of two tests neither holds
@@ -86,10 +88,16 @@ pub zoomed-once : (b : TileZBox) → zoomedBy b 1 ≡ zoomedIn b
 unfolding zoomedBy zoomedIn
 zoomed-once b = refl
 
--- the column and the row of a tile's number are within the box
-pub column-below : (b : TileZBox) (k : ℕ) → k % columnsOf b < columnsOf b
-column-below b k = mod-lt k (omega arith)
+-- a tile is one of the box exactly where the test says so
+pub holds-in : (b : TileZBox) (t : Tile) → Holds b t → inBox b (t .x) (t .y) (t .z) ≡ true
+unfolding inBox
+holds-in b t h = rw (eq-eqb _ _ (h .zoom), le-leb _ _ (h .west), le-leb _ _ (h .east), le-leb _ _ (h .north), le-leb _ _ (h .south))
 
-pub row-below : (b : TileZBox) (k : ℕ) → k < boxLength b → k / columnsOf b < rowsOf b
-unfolding boxLength
-row-below b k h = let p : 0 < columnsOf b = omega arith in div-lt-iff-lt-mul p .1 (rw (mul-comm (rowsOf b) (columnsOf b)) h)
+pub in-holds : (b : TileZBox) (t : Tile) → inBox b (t .x) (t .y) (t .z) ≡ true → Holds b t
+unfolding inBox
+in-holds b t e =
+    let p = and-parts (eqb (t .z) (b .zoom)) _ e in
+    let q = and-parts (inRun (t .x) (b .minx) (b .maxx)) (inRun (t .y) (b .miny) (b .maxy)) (p .1) in
+    let x = and-parts (leb (b .minx) (t .x)) (leb (t .x) (b .maxx)) (q .0) in
+    let y = and-parts (leb (b .miny) (t .y)) (leb (t .y) (b .maxy)) (q .1) in
+    record { zoom = eqb-true _ _ (p .0); west = leb-true _ _ (x .0); east = leb-true _ _ (x .1); north = leb-true _ _ (y .0); south = leb-true _ _ (y .1) }

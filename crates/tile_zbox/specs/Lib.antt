@@ -1,10 +1,4 @@
 pub mod Box
-pub mod Cursor
-pub mod Around
-pub mod Boxes
 pub mod Laws
-pub mod ListLaws
-pub mod Tiles
 pub mod Theorems
 pub mod Rust
-pub mod RustNext

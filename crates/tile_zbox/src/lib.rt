@@ -1,30 +1,16 @@
-// Boxes of tiles of one zoom, both ends included: their check, their tiles one by one, and what is made of them.
-use constants::MAX_BOXES;
-use constants::MAX_ENTRIES;
+// A box of tiles of one zoom, both ends included: its check, and what is made of it. Its tiles one by one are in `tile_zbox_iter`, the box
+// around listed tiles in `tile_zbox_around`, and boxes as plain numbers in `tile_zbox_numbers`.
 use constants::MAX_ZOOM;
 use errors::BoolAnswer;
 use errors::Check;
-use errors::Count;
 use errors::Refusal;
 use errors::U32Answer;
 use errors::U64Answer;
-use tile::Tile;
-use tile::TileAnswer;
 ghost use mathlib.Core.Path.{_≡_};
-ghost use mathlib.Core.Bool.{true, false};
-ghost use mathlib.Core.List.{_++_};
-ghost use Prim.Native.Nat.{_+_, _≤_, _<_, min, max};
-ghost use lib.ListN.{length, drop, getD};
-ghost use lib.Seq.{sets};
-ghost use Rattle.bits.specs.Tests.{allOf, anyOf};
+ghost use Prim.Native.Nat.{_+_, _≤_};
 ghost use Rattle.constants.specs.Limits.{maxZoom};
-ghost use Rattle.errors.specs.Cases.{checkNumber, boolCase, u32Case, u64Case, left};
-ghost use Rattle.ids.specs.Entry.{entryTile, entryRefusal, isEntry};
-ghost use Rattle.tile.specs.OnMap.{tileAt};
-ghost use Rattle.tile_zbox.specs.Around.{ofZoom, listRefusal, grown, boxAround, fromTilesOf};
-ghost use Rattle.tile_zbox.specs.Box.{IsBox, wrongRun, wrongEdges, boxRefusal, boxCase, extentCase, newOf, fromTileOf, inRun, inBox, containsPlaced, containsOf, flipped, flipOf, zoomedBy, zoomInOf, zoomDepthOf, columnsOf, rowsOf, boxLength, lengthOf, dxOf, dyOf, dxdyOf, dimensionsOf};
-ghost use Rattle.tile_zbox.specs.Boxes.{deep, sumLengths, boxFrom, boxesOf, numbersRefusal, numbersLengthOf, numbers, flippedNumbers, boxesFlipOf};
-ghost use Rattle.tile_zbox.specs.Cursor.{cursorAt, kthTile, nextCase, stepFrom, nextOf};
+ghost use Rattle.errors.specs.Cases.{checkNumber, boolCase, u32Case, u64Case};
+ghost use Rattle.tile_zbox.specs.Box.{IsBox, wrongRun, wrongEdges, boxRefusal, boxCase, extentCase, newOf, fromTileOf, inRun, inBox, containsPlaced, containsOf, flipped, flipOf, zoomedBy, zoomInOf, zoomDepthOf, boxLength, lengthOf, dxOf, dyOf, dxdyOf, dimensionsOf};
 
 pub struct TileZBox {
     pub zoom: u8,
@@ -65,7 +51,8 @@ impl TileZBox {
         Check::Fine
     }
 
-    fn wrong_edges(self) -> bool
+    // Whether the edges are none of the map's, of a zoom that has been checked: for `tile_zbox_numbers` too.
+    pub fn wrong_edges(self) -> bool
         requires { ⌜ self .zoom ≤ maxZoom ⌝ }
         ensures { λ r. ⌜ r ≡ wrongEdges self ⌝ }
     {
@@ -101,16 +88,6 @@ impl TileZBox {
                 miny: y,
                 maxy: y,
             }),
-            Check::Refused(why) => BoxAnswer::Refused(why),
-        }
-    }
-
-    // The smallest box of the listed tiles.
-    pub fn from_tiles(list: &[u64]) -> BoxAnswer
-        ensures { λ r. ⌜ boxCase r ≡ fromTilesOf (now (list .entry)) ⌝ }
-    {
-        match list_check(list) {
-            Check::Fine => BoxAnswer::Found(around(list)),
             Check::Refused(why) => BoxAnswer::Refused(why),
         }
     }
@@ -160,7 +137,8 @@ impl TileZBox {
         }
     }
 
-    fn flipped(self) -> TileZBox
+    // The same of a box that has been checked: for `tile_zbox_numbers` too.
+    pub fn flipped(self) -> TileZBox
         requires { ⌜ IsBox self ⌝ }
         ensures { λ r. ⌜ r ≡ flipped self ⌝ }
     {
@@ -222,35 +200,12 @@ impl TileZBox {
         }
     }
 
-    fn count(self) -> u64
+    // The same of a box that has been checked: for `tile_zbox_iter`, `tile_zbox_numbers` and `tile_zboxes_iter` too.
+    pub fn count(self) -> u64
         requires { ⌜ IsBox self ⌝ }
         ensures { λ r. ⌜ r ≡ boxLength self ⌝ }
     {
         wide(self.maxx - self.minx + 1) * wide(self.maxy - self.miny + 1)
-    }
-
-    // The box's tile number k: x first, then y.
-    fn kth(self, k: u64) -> Tile
-        requires { ⌜ IsBox self ⌝ }
-        requires { ⌜ k < boxLength self ⌝ }
-        ensures { λ r. ⌜ r ≡ kthTile self k ⌝ }
-    {
-        let columns = wide(self.maxx - self.minx + 1);
-        let across = k % columns;
-        let down = k / columns;
-        self.placed(across, down)
-    }
-
-    fn placed(self, across: u64, down: u64) -> Tile
-        requires { ⌜ IsBox self ⌝ }
-        requires { ⌜ (across < columnsOf self) × (down < rowsOf self) ⌝ }
-        ensures { λ r. ⌜ r ≡ tileAt (self .minx + across) (self .miny + down) (self .zoom) ⌝ }
-    {
-        Tile {
-            x: self.minx + across as u32,
-            y: self.miny + down as u32,
-            z: self.zoom,
-        }
     }
 
     pub fn size(self) -> U64Answer
@@ -313,304 +268,6 @@ impl TileZBox {
             }),
             Check::Refused(why) => ExtentAnswer::Refused(why),
         }
-    }
-}
-
-// The tiles of a box one by one, x first, then y: the box, and how many of its tiles were given.
-pub struct TileZBoxIterator {
-    pub range: TileZBox,
-    pub given: u64,
-}
-
-pub enum NextAnswer {
-    // A tile, and the cursor that gives the next one.
-    Given(Tile, TileZBoxIterator),
-    // All tiles were given: the cursor as it was.
-    End(TileZBoxIterator),
-    Refused(Refusal),
-}
-
-impl TileZBoxIterator {
-    pub fn from(range: TileZBox) -> Self
-        ensures { λ r. ⌜ r ≡ cursorAt range 0 ⌝ }
-    {
-        Self { range, given: 0 }
-    }
-
-    pub fn next(self) -> NextAnswer
-        ensures { λ r. ⌜ nextCase r ≡ nextOf self ⌝ }
-    {
-        let range = self.range;
-        match range.check() {
-            Check::Fine => step(range, self.given),
-            Check::Refused(why) => NextAnswer::Refused(why),
-        }
-    }
-}
-
-fn step(range: TileZBox, given: u64) -> NextAnswer
-    requires { ⌜ IsBox range ⌝ }
-    ensures { λ r. ⌜ nextCase r ≡ stepFrom range given ⌝ }
-{
-    let length = range.count();
-    if given > length {
-        return NextAnswer::Refused(Refusal::NoBox);
-    }
-    if given == length {
-        return NextAnswer::End(TileZBoxIterator { range, given });
-    }
-    NextAnswer::Given(
-        range.kth(given),
-        TileZBoxIterator {
-            range,
-            given: given + 1,
-        },
-    )
-}
-
-// Whether a list is one of tiles of one zoom: too many, then a number of no tile, then none, then mixed zooms.
-fn list_check(list: &[u64]) -> Check
-    ensures { λ r. ⌜ checkNumber r ≡ listRefusal (now (list .entry)) ⌝ }
-{
-    if list.len() > MAX_ENTRIES {
-        return Check::Refused(Refusal::TooMany);
-    }
-    if !all_entries(list) {
-        return Check::Refused(Refusal::NoTile);
-    }
-    if list.len() == 0 {
-        return Check::Refused(Refusal::EmptyList);
-    }
-    if !all_of_zoom(list, listed(list[0]).z) {
-        return Check::Refused(Refusal::MixedZooms);
-    }
-    Check::Fine
-}
-
-fn all_entries(list: &[u64]) -> bool
-    ensures { λ r. ⌜ r ≡ allOf isEntry (now (list .entry)) ⌝ }
-{
-    let mut i = 0;
-    while i < list.len() {
-        if !is_entry(list[i]) {
-            return false;
-        }
-        i += 1;
-    }
-    true
-}
-
-fn is_entry(entry: u64) -> bool
-    ensures { λ r. ⌜ r ≡ isEntry entry ⌝ }
-{
-    match ids::entry_tile(entry) {
-        TileAnswer::Found(_) => true,
-        TileAnswer::Refused(_) => false,
-    }
-}
-
-// The tile of an entry.
-fn listed(entry: u64) -> Tile
-    requires { ⌜ entryRefusal entry ≡ 0 ⌝ }
-    ensures { λ r. ⌜ r ≡ entryTile entry ⌝ }
-{
-    match ids::entry_tile(entry) {
-        TileAnswer::Found(found) => found,
-        TileAnswer::Refused(_) => Tile { x: 0, y: 0, z: 0 },
-    }
-}
-
-fn all_of_zoom(list: &[u64], zoom: u8) -> bool
-    requires { ⌜ allOf isEntry (now list) ≡ true ⌝ }
-    ensures { λ r. ⌜ r ≡ allOf (ofZoom zoom) (now (list .entry)) ⌝ }
-{
-    let mut i = 0;
-    while i < list.len() {
-        if listed(list[i]).z != zoom {
-            return false;
-        }
-        i += 1;
-    }
-    true
-}
-
-fn around(list: &[u64]) -> TileZBox
-    requires { ⌜ allOf isEntry (now list) ≡ true ⌝ }
-    requires { ⌜ 0 < length (now list) ⌝ }
-    ensures { λ r. ⌜ r ≡ boxAround (now (list .entry)) ⌝ }
-{
-    let first = listed(list[0]);
-    let mut b = TileZBox {
-        zoom: first.z,
-        minx: first.x,
-        maxx: first.x,
-        miny: first.y,
-        maxy: first.y,
-    };
-    let mut i = 1;
-    while i < list.len() {
-        b = grown(b, listed(list[i]));
-        i += 1;
-    }
-    b
-}
-
-// The box and a tile of its zoom.
-fn grown(b: TileZBox, t: Tile) -> TileZBox
-    ensures { λ r. ⌜ r ≡ grown b t ⌝ }
-{
-    TileZBox {
-        zoom: b.zoom,
-        minx: lower(b.minx, t.x),
-        maxx: higher(b.maxx, t.x),
-        miny: lower(b.miny, t.y),
-        maxy: higher(b.maxy, t.y),
-    }
-}
-
-fn lower(a: u32, b: u32) -> u32
-    ensures { λ r. ⌜ r ≡ min a b ⌝ }
-{
-    if a <= b { a } else { b }
-}
-
-fn higher(a: u32, b: u32) -> u32
-    ensures { λ r. ⌜ r ≡ max a b ⌝ }
-{
-    if a <= b { b } else { a }
-}
-
-// TileZBoxes over plain numbers, five for each box: zoom, minx, maxx, miny, maxy.
-
-// The sum of the boxes' lengths, overlaps counted twice.
-pub fn boxes_length(boxes: &[u32]) -> U64Answer
-    ensures { λ r. ⌜ u64Case r ≡ numbersLengthOf (now (boxes .entry)) ⌝ }
-{
-    match boxes_check(boxes) {
-        Check::Fine => U64Answer::Number(sum(boxes)),
-        Check::Refused(why) => U64Answer::Refused(why),
-    }
-}
-
-fn sum(boxes: &[u32]) -> u64
-    requires { ⌜ numbersRefusal (now boxes) ≡ 0 ⌝ }
-    ensures { λ r. ⌜ r ≡ sumLengths (boxesOf (now (boxes .entry))) ⌝ }
-{
-    let mut left = boxes.len() / 5;
-    let mut at = 0;
-    let mut total: u64 = 0;
-    while 0 < left {
-        total += box_at(boxes, at).count();
-        at += 5;
-        left -= 1;
-    }
-    total
-}
-
-// The flipped boxes, as numbers in the same order.
-pub fn boxes_flipy(boxes: &[u32], out: &mut [u32]) -> Count
-    ensures { λ r. ⌜ left r (now (out .exit)) ≡ boxesFlipOf (now (boxes .entry)) (now (out .entry)) ⌝ }
-{
-    match boxes_check(boxes) {
-        Check::Fine => {
-            let n = boxes.len();
-            if out.len() < n {
-                return Count::Refused(Refusal::Memory);
-            }
-            flip_all(boxes, out);
-            Count::Counted(n)
-        }
-        Check::Refused(why) => Count::Refused(why),
-    }
-}
-
-fn flip_all(boxes: &[u32], out: &mut [u32])
-    requires { ⌜ numbersRefusal (now boxes) ≡ 0 ⌝ }
-    requires { ⌜ length (now boxes) ≤ length (now out) ⌝ }
-    ensures { λ _. ⌜ now (out .exit) ≡ flippedNumbers (now (boxes .entry)) ++ drop (length (now (boxes .entry))) (now (out .entry)) ⌝ }
-{
-    let mut left = boxes.len() / 5;
-    let mut at = 0;
-    while 0 < left {
-        put(out, at, box_at(boxes, at).flipped());
-        at += 5;
-        left -= 1;
-    }
-}
-
-fn put(out: &mut [u32], at: usize, b: TileZBox)
-    requires { ⌜ at + 5 ≤ length (now out) ⌝ }
-    ensures { λ _. ⌜ now (out .exit) ≡ sets (now (out .entry)) at (numbers b) ⌝ }
-{
-    out[at] = b.zoom as u32;
-    out[at + 1] = b.minx;
-    out[at + 2] = b.maxx;
-    out[at + 3] = b.miny;
-    out[at + 4] = b.maxy;
-}
-
-// The lowest number over all boxes and their count.
-fn boxes_check(boxes: &[u32]) -> Check
-    ensures { λ r. ⌜ checkNumber r ≡ numbersRefusal (now (boxes .entry)) ⌝ }
-{
-    if any_deep(boxes) {
-        return Check::Refused(Refusal::Zoom);
-    }
-    if boxes.len() / 5 > MAX_BOXES {
-        return Check::Refused(Refusal::TooMany);
-    }
-    if boxes.len() % 5 != 0 {
-        return Check::Refused(Refusal::NoBox);
-    }
-    if any_wrong(boxes) {
-        return Check::Refused(Refusal::NoBox);
-    }
-    Check::Fine
-}
-
-fn any_deep(boxes: &[u32]) -> bool
-    ensures { λ r. ⌜ r ≡ anyOf deep (boxesOf (now (boxes .entry))) ⌝ }
-{
-    let mut left = boxes.len() / 5;
-    let mut at = 0;
-    while 0 < left {
-        if boxes[at] > MAX_ZOOM as u32 {
-            return true;
-        }
-        at += 5;
-        left -= 1;
-    }
-    false
-}
-
-fn any_wrong(boxes: &[u32]) -> bool
-    requires { ⌜ anyOf deep (boxesOf (now boxes)) ≡ false ⌝ }
-    ensures { λ r. ⌜ r ≡ anyOf wrongEdges (boxesOf (now (boxes .entry))) ⌝ }
-{
-    let mut left = boxes.len() / 5;
-    let mut at = 0;
-    while 0 < left {
-        if box_at(boxes, at).wrong_edges() {
-            return true;
-        }
-        at += 5;
-        left -= 1;
-    }
-    false
-}
-
-// The box whose five numbers start at a place.
-fn box_at(boxes: &[u32], at: usize) -> TileZBox
-    requires { ⌜ at + 5 ≤ length (now boxes) ⌝ }
-    requires { ⌜ getD (now boxes) at 0 ≤ maxZoom ⌝ }
-    ensures { λ r. ⌜ r ≡ boxFrom (drop at (now (boxes .entry))) ⌝ }
-{
-    TileZBox {
-        zoom: boxes[at] as u8,
-        minx: boxes[at + 1],
-        maxx: boxes[at + 2],
-        miny: boxes[at + 3],
-        maxy: boxes[at + 4],
     }
 }
 

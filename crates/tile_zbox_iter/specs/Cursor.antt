@@ -1,65 +1,58 @@
--- The cursor over several boxes: the tiles of the first, then those of the second, and so on, each box row by row; and the hint of the cursor over one.
+-- The cursor over a box's tiles: x first, then y, from the box and how many tiles were given; and its size hint.
 use mathlib.Core.Bool.{cond}
-use mathlib.Core.List.{List, [], _∷_, _++_}
-use Prim.Native.Nat.{ℕ, _+_}
+use Prim.Native.Nat.{ℕ, _+_, _/_, _%_}
 use lib.Dec.{ltb}
-use lib.ListN.{length, getD}
 use Rattle.errors.specs.Answer.{Answer, answer, _when_, _else_}
 use Rattle.errors.specs.Cases.{refusedAs}
-use Rattle.tile.specs.OnMap.{noTile}
+use Rattle.tile.specs.OnMap.{tileAt, noTile}
 use Rattle.tile.specs.declared.Tile.{Tile}
-use Rattle.tile_zbox.specs.Box.{boxLength}
-use Rattle.tile_zbox.specs.Boxes.{boxesOf, numbersRefusal}
-use Rattle.tile_zbox.specs.Cursor.{nextRefusal}
-use Rattle.tile_zbox.specs.Tiles.{tilesOf}
+use Rattle.tile_zbox.specs.Box.{noBox, boxRefusal, columnsOf, boxLength}
 use Rattle.tile_zbox.specs.declared.TileZBox.{TileZBox}
-use Rattle.tile_zbox.specs.declared.TileZBoxIterator.{TileZBoxIterator}
-use Rattle.tile_zbox_iter.specs.declared.TileZBoxesIterator.{TileZBoxesIterator}
-use Rattle.tile_zbox_iter.specs.declared.BoxesNextAnswer.{BoxesNextAnswer}
-use Rattle.tile_zbox_iter.specs.declared.BoxesNextAnswer.the-variants.{Given, End, Refused}
+use Rattle.tile_zbox_iter.specs.declared.TileZBoxIterator.{TileZBoxIterator}
+use Rattle.tile_zbox_iter.specs.declared.NextAnswer.{NextAnswer}
+use Rattle.tile_zbox_iter.specs.declared.NextAnswer.the-variants.{Given, End, Refused}
 
-abbrev pub boxesCursorAt : ℕ → TileZBoxesIterator
-boxesCursorAt n = record { given = n }
+abbrev pub cursorAt : TileZBox → ℕ → TileZBoxIterator
+cursorAt b n = record { range = b; given = n }
 
--- the tiles of all boxes, one box after the other
-unfoldable pub tilesOfAll : List TileZBox → List Tile
-tilesOfAll [] = []
-tilesOfAll (b ∷ bs) = tilesOf b ++ tilesOfAll bs
+-- the box's tile number k, from 0 on
+unfoldable pub kthTile : TileZBox → ℕ → Tile
+kthTile b k = tileAt (b .minx + k % columnsOf b) (b .miny + k / columnsOf b) (b .zoom)
 
 -- what a call of `next` gives: how many tiles, 1 or at the end 0, that tile, and the cursor for the call after it
-pub record BoxesStep : Type 0 where
+pub record Step : Type 0 where
   pub count : ℕ
   pub tile : Tile
-  pub cursor : TileZBoxesIterator
+  pub cursor : TileZBoxIterator
 
-abbrev pub given : Tile → TileZBoxesIterator → BoxesStep
+abbrev pub given : Tile → TileZBoxIterator → Step
 given t c = record { count = 1; tile = t; cursor = c }
 
-abbrev pub ended : TileZBoxesIterator → BoxesStep
+abbrev pub ended : TileZBoxIterator → Step
 ended c = record { count = 0; tile = noTile; cursor = c }
 
 -- the zero of the type
-abbrev pub noStep : BoxesStep
-noStep = ended (boxesCursorAt 0)
+abbrev pub noStep : Step
+noStep = ended (cursorAt noBox 0)
 
-abbrev pub boxesNextCase : BoxesNextAnswer → Answer BoxesStep
-boxesNextCase (Given t c) = record { number = 0; value = given t c }
-boxesNextCase (End c) = record { number = 0; value = ended c }
-boxesNextCase (Refused why) = refusedAs why noStep
+abbrev pub nextCase : NextAnswer → Answer Step
+nextCase (Given t c) = record { number = 0; value = given t c }
+nextCase (End c) = record { number = 0; value = ended c }
+nextCase (Refused why) = refusedAs why noStep
 
--- the tile at place n and the cursor after it; all of them given, the cursor as it was
-abbrev pub stepOn : List Tile → ℕ → BoxesStep
-stepOn ts n = cond (ltb n (length ts)) (given (getD ts n noTile) (boxesCursorAt (n + 1))) (ended (boxesCursorAt n))
+-- tile number n and the cursor after it; all of the box given, the cursor as it was
+abbrev pub stepOn : TileZBox → ℕ → Step
+stepOn b n = cond (ltb n (boxLength b)) (given (kthTile b n) (cursorAt b (n + 1))) (ended (cursorAt b n))
 
--- 10 for a cursor that has given more tiles than there are
-abbrev pub boxesStepFrom : List Tile → ℕ → Answer BoxesStep
-boxesStepFrom ts n = answer (10 when ltb (length ts) n) noStep (stepOn ts n)
+-- 10 for a cursor that has given more tiles than its box holds
+abbrev pub stepFrom : TileZBox → ℕ → Answer Step
+stepFrom b n = answer (10 when ltb (boxLength b) n) noStep (stepOn b n)
 
--- the boxes' refusal, as for their sum, then the cursor's
-abbrev pub boxesNextOf : TileZBoxesIterator → List ℕ → Answer BoxesStep
-boxesNextOf c list =
-    let ts = tilesOfAll (boxesOf list) in
-    answer (numbersRefusal list else 10 when ltb (length ts) (c .given)) noStep (stepOn ts (c .given))
+abbrev pub nextRefusal : TileZBoxIterator → ℕ
+nextRefusal c = boxRefusal (c .range) else 10 when ltb (boxLength (c .range)) (c .given)
+
+abbrev pub nextOf : TileZBoxIterator → Answer Step
+nextOf c = answer (nextRefusal c) noStep (stepOn (c .range) (c .given))
 
 -- the Rust's hint takes no notice of how many tiles were given
 abbrev pub sizeHintOf : TileZBoxIterator → Answer ℕ

@@ -1,4 +1,4 @@
 pub mod Cursor
-pub mod Laws
+pub mod Tiles
 pub mod Theorems
-pub mod Rust
+pub mod RustNext

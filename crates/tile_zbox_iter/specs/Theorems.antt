@@ -1,101 +1,70 @@
 -- What the definitions of this crate come to, in document 01's words. Nothing is assumed.
-use mathlib.Core.Path.{_≡_, refl, sym, ap, _∙_}
-use mathlib.Core.List.{List, [], _∷_, _++_, append-assoc}
-use Prim.Native.Nat.{ℕ, zero, suc, _+_, _≤_, _<_}
-use native.Mathlib.Numerals.{add-one}
+use mathlib.Core.Path.{_≡_, sym, ap, _∙_, subst}
+use mathlib.Core.Logic.{_↔_}
+use mathlib.Core.Bool.{Bool, true}
+use mathlib.Core.List.{List, List·Memᴰ}
+use Prim.Native.Nat.{ℕ, _+_, _≤_, _<_}
 use native.Mathlib.Omega.{arith}
-use lib.ListN.{length, drop, getD, drop-of-length-le}
-use lib.Seq.{drop-cons, getD-append-add}
-use borrow.Author.Tests.{le-ltb, lt-ltb}
-use Rattle.errors.specs.Answer.{Answer, answer}
-use Rattle.tile.specs.OnMap.{noTile}
+use lib.ListN.{length}
+use borrow.Author.Tests.{lt-ltb, le-ltb}
+use Rattle.errors.specs.Answer.{Answer}
+use Rattle.tile.specs.OnMap.{OnMap, on-map-accepted}
 use Rattle.tile.specs.declared.Tile.{Tile}
-use Rattle.tile_zbox.specs.Box.{IsBox, boxLength}
-use Rattle.tile_zbox.specs.Boxes.{boxesOf, sumLengths, numbersRefusal, numbersLengthOf}
-use Rattle.tile_zbox.specs.Cursor as one
-use Rattle.tile_zbox.specs.Laws.{box-accepted}
-use Rattle.tile_zbox.specs.ListLaws.{Fine, fine-first, accepted-all-boxes}
-use Rattle.tile_zbox.specs.Tiles.{next-gives, tilesOf}
+use Rattle.tile_zbox.specs.Box.{IsBox, inBox, Holds, containsOf, boxLength}
+use Rattle.tile_zbox.specs.Laws.{box-accepted, holds-in, in-holds}
 use Rattle.tile_zbox.specs.declared.TileZBox.{TileZBox}
-use Rattle.tile_zbox_iter.specs.Cursor.{boxesCursorAt, tilesOfAll, given, ended, noStep, boxesNextOf, sizeHintOf}
-use Rattle.tile_zbox_iter.specs.Laws.{as-many-as-the-sum, in-the-first}
-use Rattle.tile_zbox_iter.specs.declared.TileZBoxesIterator.{TileZBoxesIterator}
+use Rattle.tile_zbox_iter.specs.Cursor.{cursorAt, kthTile, ended, nextOf, sizeHintOf}
+use Rattle.tile_zbox_iter.specs.Tiles.{tilesOf, numberedFrom, numbered-all, numbered-length, member-number, number-member, kth-holds, placeOf, place-below, kth-of-place, place-of-kth, Gives, next-ends, gives-numbered}
 
--- calls of `next` on the same numbers, from a cursor on: the tiles that they give one by one, and the cursor that they leave
-pub data Gives (list : List ℕ) : TileZBoxesIterator → List Tile → TileZBoxesIterator → Type 0 where
-  none : {c : TileZBoxesIterator} → Gives list c [] c
-  more : {c d e : TileZBoxesIterator} {t : Tile} {ts : List Tile} → boxesNextOf c list ≡ record { number = 0; value = given t d } → Gives list d ts e → Gives list c (t ∷ ts) e
+-- "the iterator runs x first, then y": from the start a cursor gives the box's tiles row by row, and is then at its end
+pub the-cursor-gives-the-tiles-row-by-row : (b : TileZBox) → IsBox b → Gives (cursorAt b 0) (tilesOf b) (cursorAt b (boxLength b))
+the-cursor-gives-the-tiles-row-by-row b i =
+    let e : 0 + boxLength b ≡ boxLength b = omega arith in
+    subst (λ (l : List Tile). Gives (cursorAt b 0) l (cursorAt b (boxLength b))) (numbered-all b) (rw e at (gives-numbered b 0 (boxLength b) i (omega arith)))
 
--- before the end the tile at its place is given
-gives-the-next : (l : List ℕ) (n : ℕ) → numbersRefusal l ≡ 0 → n < length (tilesOfAll (boxesOf l))
-    → boxesNextOf (boxesCursorAt n) l ≡ record { number = 0; value = given (getD (tilesOfAll (boxesOf l)) n noTile) (boxesCursorAt (n + 1)) }
-gives-the-next l n e h = let k : n ≤ length (tilesOfAll (boxesOf l)) = omega arith in rw (e, le-ltb _ _ k, lt-ltb _ _ h)
+-- at its end it gives no tile, and stays there
+pub then-it-has-ended-for-ever : (b : TileZBox) → IsBox b → nextOf (cursorAt b (boxLength b)) ≡ record { number = 0; value = ended (cursorAt b (boxLength b)) }
+then-it-has-ended-for-ever = next-ends
 
-gives-the-rest : (l : List ℕ) (m n : ℕ) → numbersRefusal l ≡ 0 → n + m ≡ length (tilesOfAll (boxesOf l))
-    → Gives l (boxesCursorAt n) (drop n (tilesOfAll (boxesOf l))) (boxesCursorAt (length (tilesOfAll (boxesOf l))))
-gives-the-rest l zero n e h =
-    let ts = tilesOfAll (boxesOf l) in
-    let k : length ts ≡ n = omega arith in
-    rw (k, drop-of-length-le ts {i = n} (omega arith)) none
-gives-the-rest l (suc m) n e h =
-    let ts = tilesOfAll (boxesOf l) in
-    let k : n < length ts = omega arith in
-    let g : boxesNextOf (boxesCursorAt n) l ≡ record { number = 0; value = given (getD ts n noTile) (boxesCursorAt (suc n)) } =
-    gives-the-next l n e k ∙ ap (λ (j : ℕ). record { number = 0; value = given (getD ts n noTile) (boxesCursorAt j) }) (add-one n) in
-    rw (drop-cons ts n noTile k) (more g (gives-the-rest l m (suc n) e (omega arith)))
+-- one more given than the box holds is 10
+pub past-the-end-is-refused : (b : TileZBox) (k : ℕ) → IsBox b → boxLength b < k → nextOf (cursorAt b k) .number ≡ 10
+past-the-end-is-refused b k i h = rw (box-accepted i, lt-ltb _ _ h)
 
--- run from the start it gives all tiles of the first box, then those of the second, and so on, as many as the sum says
-pub every-box-in-its-turn : (l : List ℕ) → numbersRefusal l ≡ 0 → Gives l (boxesCursorAt 0) (tilesOfAll (boxesOf l)) (boxesCursorAt (sumLengths (boxesOf l)))
-every-box-in-its-turn l e = rw (← as-many-as-the-sum (boxesOf l)) (gives-the-rest l (length (tilesOfAll (boxesOf l))) 0 e (omega arith))
+-- every tile of the box is given exactly once
+pub every-tile-exactly-once : (b : TileZBox) (t : Tile) → Holds b t → (k : ℕ) × (k < boxLength b) × (kthTile b k ≡ t) × ((j : ℕ) → kthTile b j ≡ t → j ≡ k)
+every-tile-exactly-once b t h = (placeOf b t, place-below b t h, kth-of-place b t h, λ j e. sym (place-of-kth b j) ∙ ap (placeOf b) e)
 
--- and then nothing for ever
-pub then-nothing-for-ever : (l : List ℕ) → numbersRefusal l ≡ 0
-    → boxesNextOf (boxesCursorAt (sumLengths (boxesOf l))) l ≡ record { number = 0; value = ended (boxesCursorAt (sumLengths (boxesOf l))) }
-then-nothing-for-ever l e =
-    let s = as-many-as-the-sum (boxesOf l) in
-    let h : length (tilesOfAll (boxesOf l)) ≤ length (tilesOfAll (boxesOf l)) = omega arith in
-    rw (← s, e, le-ltb _ _ h)
+-- and no other is
+pub no-other-tile : (b : TileZBox) (k : ℕ) → IsBox b → k < boxLength b → Holds b (kthTile b k)
+no-other-tile = kth-holds
 
--- one more given than they hold together is 10
-pub past-the-last-is-10 : (l : List ℕ) (n : ℕ) → numbersRefusal l ≡ 0 → sumLengths (boxesOf l) < n → boxesNextOf (boxesCursorAt n) l ≡ record { number = 10; value = noStep }
-past-the-last-is-10 l n e h = let k : length (tilesOfAll (boxesOf l)) < n = omega (arith, as-many-as-the-sum (boxesOf l)) in rw (e, lt-ltb _ _ k)
+-- `length` counts them
+pub length-counts-the-tiles : (b : TileZBox) → length (tilesOf b) ≡ boxLength b
+length-counts-the-tiles b = ap length (sym (numbered-all b)) ∙ numbered-length b 0 (boxLength b)
 
--- boxes that the sum refuses are refused by the same number, wherever the cursor stands
-pub refused-as-the-sum : (l : List ℕ) (c : TileZBoxesIterator) (n : ℕ) → numbersLengthOf l ≡ record { number = suc n; value = 0 } → boxesNextOf c l ≡ record { number = suc n; value = noStep }
-refused-as-the-sum l c n e = rw (number (numbersRefusal l) e)
+-- `contains_tile` is true exactly for the tiles of the list
+pub in-the-list-exactly-if-in-the-box : (b : TileZBox) (t : Tile) → IsBox b → List·Memᴰ t (tilesOf b) ↔ Holds b t
+in-the-list-exactly-if-in-the-box b t i = (there, back)
   where
-    number : (r : ℕ) → answer r 0 (sumLengths (boxesOf l)) ≡ record { number = suc n; value = 0 } → r ≡ suc n
-    number zero f = let z : 0 ≡ suc n = ap (λ (a : Answer ℕ). a .number) f in absurd (omega arith)
-    number (suc r) f = ap (λ (a : Answer ℕ). a .number) f
+    there : List·Memᴰ t (tilesOf b) → Holds b t
+    there m =
+        let r = member-number b t 0 (boxLength b) (subst (λ (l : List Tile). List·Memᴰ t l) (sym (numbered-all b)) m) in
+        let h = r .1 in
+        subst (Holds b) (r .2) (kth-holds b (r .0) i (omega arith))
 
--- the tiles of some boxes and then of others
-all-append : (front bs : List TileZBox) → tilesOfAll (front ++ bs) ≡ tilesOfAll front ++ tilesOfAll bs
-unfolding tilesOfAll
-all-append [] bs = refl
-all-append (a ∷ front) bs = ap (λ (ts : List Tile). tilesOf a ++ ts) (all-append front bs) ∙ sym (append-assoc (tilesOf a) (tilesOfAll front) (tilesOfAll bs))
+    back : Holds b t → List·Memᴰ t (tilesOf b)
+    back h =
+        let e : 0 + placeOf b t ≡ placeOf b t = omega arith in
+        let m = number-member b 0 (boxLength b) (placeOf b t) (place-below b t h) in
+        subst (λ (l : List Tile). List·Memᴰ t l) (numbered-all b) (subst (λ (s : Tile). List·Memᴰ s (numberedFrom b 0 (boxLength b))) (ap (kthTile b) e ∙ kth-of-place b t h) m)
 
-fine-at : (front : List TileZBox) (b : TileZBox) (bs : List TileZBox) → Fine (front ++ (b ∷ bs)) → IsBox b
-fine-at [] b bs f = fine-first b bs f .0
-fine-at (a ∷ front) b bs f = fine-at front b bs (fine-first a (front ++ (b ∷ bs)) f .1)
+pub contains-exactly-the-tiles : (b : TileZBox) (t : Tile) → IsBox b → OnMap (t .x) (t .y) (t .z) → containsOf b (t .x) (t .y) (t .z) ≡ record { number = 0; value = true } ↔ List·Memᴰ t (tilesOf b)
+contains-exactly-the-tiles b t i m =
+    (λ e. in-the-list-exactly-if-in-the-box b t i .1 (in-holds b t (sym told ∙ ap (λ (a : Answer Bool). a .value) e)), λ k. rw (le-ltb _ _ (i .zoom), on-map-accepted m, box-accepted i, holds-in b t (in-the-list-exactly-if-in-the-box b t i .0 k)))
+  where
+    told : containsOf b (t .x) (t .y) (t .z) .value ≡ inBox b (t .x) (t .y) (t .z)
+    told = rw (le-ltb _ _ (i .zoom), on-map-accepted m, box-accepted i)
 
-sum-at : (front : List TileZBox) (b : TileZBox) (bs : List TileZBox) → sumLengths front + boxLength b ≤ sumLengths (front ++ (b ∷ bs))
-unfolding sumLengths
-sum-at [] b bs = omega arith
-sum-at (a ∷ front) b bs = omega (arith, sum-at front b bs)
-
--- each box's tiles are given as its own cursor gives them, behind those of the boxes before it
-pub each-as-its-own-cursor-gives-it : (l : List ℕ) (front : List TileZBox) (b : TileZBox) (bs : List TileZBox) (k : ℕ) → numbersRefusal l ≡ 0 → boxesOf l ≡ front ++ (b ∷ bs) → k < boxLength b
-    → (t : Tile) × (one.nextOf (one.cursorAt b k) ≡ record { number = 0; value = one.given t (one.cursorAt b (k + 1)) })
-    × (boxesNextOf (boxesCursorAt (sumLengths front + k)) l ≡ record { number = 0; value = given t (boxesCursorAt (sumLengths front + k + 1)) })
-each-as-its-own-cursor-gives-it l front b bs k e s h =
-    let i : IsBox b = fine-at front b bs (rw s at (accepted-all-boxes l e .fine)) in
-    let n : length (tilesOfAll front) ≡ sumLengths front = as-many-as-the-sum front in
-    let w : getD (tilesOfAll (boxesOf l)) (sumLengths front + k) noTile ≡ one.kthTile b k =
-    rw (s, all-append front (b ∷ bs), ← n) (getD-append-add (tilesOfAll front) (tilesOfAll (b ∷ bs)) k noTile ∙ in-the-first b bs k h) in
-    let m : sumLengths front + k < length (tilesOfAll (boxesOf l)) = rw (as-many-as-the-sum (boxesOf l), s) (omega (arith, sum-at front b bs)) in
-    let c = boxesCursorAt (sumLengths front + k + 1) in
-    (one.kthTile b k, next-gives b k i h, gives-the-next l (sumLengths front + k) e m ∙ ap (λ (t : Tile). record { number = 0; value = given t c }) w)
-
--- the hint of one box's cursor never falls: it is not how many tiles are left
-pub the-hint-never-falls : (b : TileZBox) (k : ℕ) → IsBox b → k ≤ boxLength b → sizeHintOf (one.cursorAt b k) ≡ record { number = 0; value = boxLength b }
+-- `size_hint`: the hint never falls: it is not how many tiles are left
+pub the-hint-never-falls : (b : TileZBox) (k : ℕ) → IsBox b → k ≤ boxLength b → sizeHintOf (cursorAt b k) ≡ record { number = 0; value = boxLength b }
 the-hint-never-falls b k i h = rw (box-accepted i, le-ltb _ _ h)

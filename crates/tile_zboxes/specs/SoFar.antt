@@ -14,9 +14,9 @@ use Rattle.bits.specs.Tests.{anyOf, any-append}
 use Rattle.constants.specs.Limits.{maxBoxes}
 use Rattle.errors.specs.Answer.{Answer, answer, _when_, _else_}
 use Rattle.tile_zbox.specs.Box.{noBox, wrongEdges, boxRefusal, boxLength, lengthOf}
-use Rattle.tile_zbox.specs.Boxes.{deep, refusalOver, sumLengths, boxesLengthOf}
+use Rattle.tile_zbox_numbers.specs.Boxes.{deep, refusalOver, sumLengths, boxesLengthOf}
 use Rattle.tile_zbox.specs.Laws.{accepted-box, length-small}
-use Rattle.tile_zbox.specs.ListLaws.{any-none, accepted-over, fine-more, fine-fits, sum-step, sum-none}
+use Rattle.tile_zbox_numbers.specs.Laws.{any-none, accepted-over, fine-more, fine-fits, sum-step, sum-none}
 use Rattle.tile_zbox.specs.declared.TileZBox.{TileZBox}
 
 infixl 20 _plus_

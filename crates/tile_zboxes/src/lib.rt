@@ -1,5 +1,5 @@
 // `TileZBoxes` as a lent list of box records: the sum of the boxes' lengths, overlaps counted twice. The same of boxes that are
-// plain numbers is `tile_zbox::boxes_length`.
+// plain numbers is `tile_zbox_numbers::boxes_length`.
 use constants::MAX_BOXES;
 use errors::Refusal;
 use errors::U64Answer;
@@ -10,7 +10,7 @@ ghost use Prim.Native.Nat.{_+_, _<_, _^_};
 ghost use Rattle.errors.specs.Answer.{answer, numberOf};
 ghost use Rattle.errors.specs.Cases.{u64Case, refusedAs};
 ghost use Rattle.tile_zbox.specs.Box.{lengthOf};
-ghost use Rattle.tile_zbox.specs.Boxes.{boxesLengthOf};
+ghost use Rattle.tile_zbox_numbers.specs.Boxes.{boxesLengthOf};
 ghost use Rattle.tile_zboxes.specs.SoFar.{soFar, lowest, _plus_};
 
 // The lowest number over all boxes and their count, or else the sum. The borrow checker covers no function over a slice of structs:

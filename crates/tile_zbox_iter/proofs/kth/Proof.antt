@@ -1,47 +1,38 @@
--- `tile_zbox_iter::kth` meets its contract: a cursor that has given fewer tiles than its box holds gives the next one.
-use mathlib.Core.Path.{_≡_, sym, ap, _∙_}
-use Prim.Native.Nat.{ℕ}
+-- `tile_zbox_iter::kth` meets its contract: of a box the column and the row of a tile's number are within it.
 use native.Mathlib.Omega.{arith}
 use borrow.Author.Needs.{needs}
-use Rattle.errors.specs.Answer.{Answer}
-use Rattle.errors.specs.Laws.{never-zero}
-use Rattle.tile_zbox.specs.Cursor.{Step, nextCase}
-use Rattle.tile_zbox.specs.Tiles.{next-gives}
+use Rattle.tile.specs.OnMap.{side-small}
+use Rattle.tile_zbox.specs.Laws.{columns-fit}
+use Rattle.tile_zbox_iter.specs.Cursor.{kthTile}
+use Rattle.tile_zbox_iter.specs.Tiles.{column-below, row-below}
 use Rattle.tile_zbox_iter.proofs.kth.Statement.{statement}
 use Rattle.tile_zbox_iter.proofs.kth.Tie as tie
 
-next-requires : tie.Need-next-requires
-next-requires c κs = search needs
+sub-columns : tie.Need-sub-columns
+sub-columns c = search needs
 
-enum-known-t : tie.Need-enum-known-t
-enum-known-t c = search needs
+add-columns : tie.Need-add-columns
+add-columns c = omega (arith, columns-fit (c .before .pre .0), side-small (c .before .pre .0 .zoom))
 
-enum-told : tie.Need-enum-told
-enum-told c = search needs
+cast-columns : tie.Need-cast-columns
+cast-columns c = search needs
 
-enum-told-2 : tie.Need-enum-told-2
-enum-told-2 c = search needs
+rem-across : tie.Need-rem-across
+rem-across c = search needs
+
+div-down : tie.Need-div-down
+div-down c = search needs
+
+placed-requires : tie.Need-placed-requires
+placed-requires c κs =
+    let a = c .before .args in
+    (c .before .pre .0, (column-below (a .range) (a .k), row-below (a .range) (a .k) (c .before .pre .1)))
 
 returns : tie.Need-returns
-returns c =
-    let a = c .before .before .before .before in
-    let e = sym (ap nextCase (c .before .t .given .1)) ∙ (c .before .before .before .next .ensures ∙ next-gives (a .args .range) (a .args .k) (a .pre .0) (a .pre .1)) in
-    ap (λ (r : Answer Step). r .value .tile) e
-
-returns-2 : tie.Need-returns-2
-returns-2 c =
-    let a = c .before .before .before in
-    let e = sym (ap nextCase (c .enum-told .given .1)) ∙ (c .before .before .next .ensures ∙ next-gives (a .args .range) (a .args .k) (a .pre .0) (a .pre .1)) in
-    let z : _≡_ {A = ℕ} 0 1 = ap (λ (r : Answer Step). r .value .count) e in
-    absurd (omega arith)
-
-returns-3 : tie.Need-returns-3
-returns-3 c =
-    let a = c .before .before .before in
-    let e = sym (ap nextCase (c .enum-told2 .given .1)) ∙ (c .before .before .next .ensures ∙ next-gives (a .args .range) (a .args .k) (a .pre .0) (a .pre .1)) in
-    absurd (never-zero (c .enum-told2 .given .0 .0) (ap (λ (r : Answer Step). r .number) e))
+unfolding kthTile
+returns c = c .placed .ensures
 
 pub kth-spec : {M : Type 1} → statement M
 kth-spec =
     tie.close
-    (tie.spec next-requires enum-known-t enum-told enum-told-2 returns returns-2 returns-3)
+    (tie.spec sub-columns add-columns cast-columns rem-across div-down placed-requires returns)

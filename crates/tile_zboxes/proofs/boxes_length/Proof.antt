@@ -60,7 +60,7 @@ use Rattle.errors.specs.declared.U64Answer.{U64Answer}
 use Rattle.errors.proofs.U64Answer as S
 use Rattle.errors.proofs.U64Answer.Laws as S′
 use Rattle.tile_zbox.specs.Box.{noBox, lengthOf}
-use Rattle.tile_zbox.specs.Boxes.{boxesLengthOf}
+use Rattle.tile_zbox_numbers.specs.Boxes.{boxesLengthOf}
 use Rattle.tile_zbox.specs.declared.TileZBox.{TileZBox}
 use Rattle.tile_zbox.proofs.TileZBox as T
 use Rattle.tile_zbox.proofs.TileZBox.Laws as T′

@@ -4,8 +4,8 @@ use borrow.Author.Needs.{needs}
 use Rattle.noripliers.proofs.tile_zbox_rs.give_boxes_next.Statement.{statement}
 use Rattle.noripliers.proofs.tile_zbox_rs.give_boxes_next.Tie as tie
 use Rattle.noripliers.specs.Cursors.{boxesStepNumbers}
-use Rattle.tile_zbox_iter.specs.Cursor.{boxesNextCase}
-use Rattle.tile_zbox_iter.specs.declared.BoxesNextAnswer.{BoxesNextAnswer}
+use Rattle.tile_zboxes_iter.specs.Cursor.{boxesNextCase}
+use Rattle.tile_zboxes_iter.specs.declared.BoxesNextAnswer.{BoxesNextAnswer}
 
 enum-known-answer : tie.Need-enum-known-answer
 enum-known-answer c = search needs

@@ -4,8 +4,8 @@ use borrow.Author.Needs.{needs}
 use Rattle.noripliers.proofs.tile_zbox_rs.give_next.Statement.{statement}
 use Rattle.noripliers.proofs.tile_zbox_rs.give_next.Tie as tie
 use Rattle.noripliers.specs.Cursors.{stepNumbers}
-use Rattle.tile_zbox.specs.Cursor.{nextCase}
-use Rattle.tile_zbox.specs.declared.NextAnswer.{NextAnswer}
+use Rattle.tile_zbox_iter.specs.Cursor.{nextCase}
+use Rattle.tile_zbox_iter.specs.declared.NextAnswer.{NextAnswer}
 
 enum-known-answer : tie.Need-enum-known-answer
 enum-known-answer c = search needs

@@ -6,7 +6,7 @@ use Rattle.noripliers.proofs.tile_zbox_rs.nori_zbox_from_tiles.Tie as t
 use Rattle.noripliers.proofs.tile_zbox_rs.nori_zbox_from_tiles.Reads as reads
 use Rattle.noripliers.proofs.tile_zbox_rs.nori_zbox_from_tiles.Lts as lts
 use Rattle.noripliers.proofs.tile_zbox_rs.give_box.Reads as give-box-reads
-use Rattle.tile_zbox.proofs.TileZBox.from_tiles.Reads as from-tiles-reads
+use Rattle.tile_zbox_around.proofs.from_tiles.Reads as from-tiles-reads
 
 from-tiles-requires : tie.Need-from-tiles-requires
 from-tiles-requires c κs = search needs

@@ -7,7 +7,7 @@ use Rattle.noripliers.proofs.tile_zbox_rs.nori_zbox_next.Tie as tie
 use Rattle.noripliers.proofs.tile_zbox_rs.nori_zbox_next.Reads as reads
 use Rattle.noripliers.proofs.tile_zbox_rs.nori_zbox_next.Lts as lts
 use Rattle.noripliers.proofs.tile_zbox_rs.give_next.Reads as give-next-reads
-use Rattle.tile_zbox.proofs.TileZBoxIterator.next.Reads as next-reads
+use Rattle.tile_zbox_iter.proofs.TileZBoxIterator.next.Reads as next-reads
 
 next-requires : tie.Need-next-requires
 next-requires c κs = search needs

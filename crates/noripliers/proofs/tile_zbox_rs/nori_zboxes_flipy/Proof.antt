@@ -6,7 +6,7 @@ use Rattle.noripliers.proofs.tile_zbox_rs.nori_zboxes_flipy.Tie as tie
 use Rattle.noripliers.proofs.tile_zbox_rs.nori_zboxes_flipy.Reads as reads
 use Rattle.noripliers.proofs.tile_zbox_rs.nori_zboxes_flipy.Lts as lts
 use Rattle.noripliers.proofs.give.count.Reads as count-reads
-use Rattle.tile_zbox.proofs.boxes_flipy.Reads as boxes-flipy-reads
+use Rattle.tile_zbox_numbers.proofs.boxes_flipy.Reads as boxes-flipy-reads
 
 boxes-flipy-requires : tie.Need-boxes-flipy-requires
 boxes-flipy-requires c κs = search needs

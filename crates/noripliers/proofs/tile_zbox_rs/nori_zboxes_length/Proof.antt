@@ -6,7 +6,7 @@ use Rattle.noripliers.proofs.tile_zbox_rs.nori_zboxes_length.Tie as tie
 use Rattle.noripliers.proofs.tile_zbox_rs.nori_zboxes_length.Reads as reads
 use Rattle.noripliers.proofs.tile_zbox_rs.nori_zboxes_length.Lts as lts
 use Rattle.noripliers.proofs.give.u64_number.Reads as u64-number-reads
-use Rattle.tile_zbox.proofs.boxes_length.Reads as boxes-length-reads
+use Rattle.tile_zbox_numbers.proofs.boxes_length.Reads as boxes-length-reads
 
 boxes-length-requires : tie.Need-boxes-length-requires
 boxes-length-requires c κs = search needs

@@ -1,0 +1,4 @@
+pub mod Around
+pub mod Laws
+pub mod Theorems
+pub mod Rust

@@ -1,0 +1,4 @@
+pub mod Boxes
+pub mod Laws
+pub mod Theorems
+pub mod Rust
