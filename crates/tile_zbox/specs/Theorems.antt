@@ -19,7 +19,9 @@ the-boxes-of-the-map b = (accepted-box b, box-accepted)
 
 -- document 03: "another zoom than the box's is false"
 pub another-zoom-is-false : (b : TileZBox) (x y z : ℕ) → IsBox b → OnMap x y z → (z ≡ b .zoom → ⊥) → containsOf b x y z ≡ record { number = 0; value = false }
-another-zoom-is-false b x y z i m h = rw (le-ltb _ _ (i .zoom), on-map-accepted m, box-accepted i) (ap (λ (v : Bool). record { number = 0; value = v }) (out (inBox b x y z) refl))
+another-zoom-is-false b x y z i m h =
+    rw (le-ltb _ _ (i .zoom), on-map-accepted m, box-accepted i)
+    (ap (λ (v : Bool). record { number = 0; value = v }) (out (inBox b x y z) refl))
   where
     out : (v : Bool) → inBox b x y z ≡ v → inBox b x y z ≡ false
     out true e = absurd (h (in-holds b (tileAt x y z) e .zoom))
@@ -28,7 +30,14 @@ another-zoom-is-false b x y z i m h = rw (le-ltb _ _ (i .zoom), on-map-accepted 
 -- "`flipy`": twice is the box
 pub flipped-is-a-box : {b : TileZBox} → IsBox b → IsBox (flipped b)
 unfolding flipped
-flipped-is-a-box i = record { zoom = i .zoom; columns = i .columns; east = i .east; rows = omega (arith, i .rows, i .south); south = omega (arith, i .rows, i .south) }
+flipped-is-a-box i = record {
+  zoom = i .zoom;
+  columns = i .columns;
+  east = i .east;
+  rows = omega (arith, i .rows, i .south);
+  south =
+      omega (arith, i .rows, i .south);
+}
 
 flipped-again : (b : TileZBox) → IsBox b → flipped (flipped b) ≡ b
 unfolding flipped
@@ -38,7 +47,9 @@ flipped-again b i =
     rw (p, q)
 
 pub flipped-twice-is-the-box : (b : TileZBox) → IsBox b → flipOf (flipOf b .value) ≡ record { number = 0; value = b }
-flipped-twice-is-the-box b i = rw (box-accepted i) (rw (box-accepted (flipped-is-a-box i)) (ap (λ (v : TileZBox). record { number = 0; value = v }) (flipped-again b i)))
+flipped-twice-is-the-box b i =
+    rw (box-accepted i) (rw (box-accepted (flipped-is-a-box i))
+    (ap (λ (v : TileZBox). record { number = 0; value = v }) (flipped-again b i)))
 
 -- it holds exactly the flipped tiles
 pub flipped-holds-the-flipped-tiles : (b : TileZBox) (x y z : ℕ) → IsBox b → y < 2 ^ z → Holds (flipped b) (tileAt x y z) ↔ Holds b (tileAt x (flipRow y z) z)
@@ -46,22 +57,60 @@ unfolding flipped
 flipped-holds-the-flipped-tiles b x y z i m = (there, back)
   where
     there : Holds (flipped b) (tileAt x y z) → Holds b (tileAt x (flipRow y z) z)
-    there h = let e : 2 ^ z ≡ 2 ^ b .zoom = ap (λ (n : ℕ). 2 ^ n) (h .zoom) in record { zoom = h .zoom; west = h .west; east = h .east; north = omega (arith, h .south, i .rows, i .south); south = omega (arith, h .north, i .south) }
+    there h = let e : 2 ^ z ≡ 2 ^ b .zoom = ap (λ (n : ℕ). 2 ^ n) (h .zoom) in
+        record {
+          zoom = h .zoom;
+          west = h .west;
+          east = h .east;
+          north = omega (arith, h .south, i .rows, i .south);
+          south =
+              omega (arith, h .north, i .south);
+        }
 
     back : Holds b (tileAt x (flipRow y z) z) → Holds (flipped b) (tileAt x y z)
-    back h = let e : 2 ^ z ≡ 2 ^ b .zoom = ap (λ (n : ℕ). 2 ^ n) (h .zoom) in record { zoom = h .zoom; west = h .west; east = h .east; north = omega (arith, h .south, i .south); south = omega (arith, h .north, i .rows, i .south) }
+    back h = let e : 2 ^ z ≡ 2 ^ b .zoom = ap (λ (n : ℕ). 2 ^ n) (h .zoom) in
+        record {
+          zoom = h .zoom;
+          west = h .west;
+          east = h .east;
+          north = omega (arith, h .south, i .south);
+          south =
+              omega (arith, h .north, i .rows, i .south);
+        }
 
 -- "`zoom_in`": a tile is in it exactly if its parent is in the box
 pub in-zoom-in-exactly-if-the-parent-is-in-the-box : (b : TileZBox) (x y z : ℕ) → Holds (zoomedIn b) (tileAt x y (z + 1)) ↔ Holds b (tileAt (x / 2) (y / 2) z)
 unfolding zoomedIn
 in-zoom-in-exactly-if-the-parent-is-in-the-box b x y z = (
-  λ h. record { zoom = omega (arith, h .zoom); west = omega (arith, h .west); east = omega (arith, h .east); north = omega (arith, h .north); south = omega (arith, h .south) },
-  λ h. record { zoom = omega (arith, h .zoom); west = omega (arith, h .west); east = omega (arith, h .east); north = omega (arith, h .north); south = omega (arith, h .south) },
+  λ h. record {
+    zoom = omega (arith, h .zoom);
+    west = omega (arith, h .west);
+    east = omega (arith, h .east);
+    north =
+        omega (arith, h .north);
+    south = omega (arith, h .south);
+  },
+  λ h. record {
+    zoom = omega (arith, h .zoom);
+    west = omega (arith, h .west);
+    east = omega (arith, h .east);
+    north =
+        omega (arith, h .north);
+    south = omega (arith, h .south);
+  },
 )
 
 pub zoomed-in-is-a-box : {b : TileZBox} → IsBox b → b .zoom + 1 ≤ maxZoom → IsBox (zoomedIn b)
 unfolding zoomedIn
-zoomed-in-is-a-box {b} i d = record { zoom = d; columns = omega (arith, i .columns); east = scaled-below (b .zoom) 1 (i .east); rows = omega (arith, i .rows); south = scaled-below (b .zoom) 1 (i .south) }
+zoomed-in-is-a-box {b} i d =
+    record {
+      zoom = d;
+      columns = omega (arith, i .columns);
+      east = scaled-below (b .zoom) 1 (i .east);
+      rows =
+          omega (arith, i .rows);
+      south = scaled-below (b .zoom) 1 (i .south);
+    }
 
 -- calls of `zoom_in`, one after the other, none of them refused
 pub data ZoomsIn : TileZBox → ℕ → TileZBox → Type 0 where

@@ -21,7 +21,8 @@ firstZoom list = entryTile (getD list 0 0) .z
 
 -- too many entries; one that is no tile's; no tile; tiles of other zooms than the first
 unfoldable pub listRefusal : List ℕ → ℕ
-listRefusal list = 6 when ltb maxEntries (length list) else 7 when not (allOf isEntry list) else 8 when eqb (length list) 0 else 9 when not (allOf (ofZoom (firstZoom list)) list)
+listRefusal list = 6 when ltb maxEntries (length list) else 7 when not (allOf isEntry list) else 8 when eqb (length list) 0
+    else 9 when not (allOf (ofZoom (firstZoom list)) list)
 
 -- the smallest and the greatest of some numbers; 0 of none
 unfoldable pub least : List ℕ → ℕ

@@ -52,7 +52,8 @@ pub accepted-one-zoom : (l : List ℕ) → listRefusal l ≡ 0 → OneZoom l
 unfolding listRefusal
 accepted-one-zoom l e = pick (ltb maxEntries (length l)) refl (allOf isEntry l) refl (eqb (length l) 0) refl (allOf (ofZoom (firstZoom l)) l) refl e
   where
-    pick : (a : Bool) → ltb maxEntries (length l) ≡ a → (b : Bool) → allOf isEntry l ≡ b → (c : Bool) → eqb (length l) 0 ≡ c → (d : Bool) → allOf (ofZoom (firstZoom l)) l ≡ d
+    pick : (a : Bool) → ltb maxEntries (length l) ≡ a → (b : Bool) → allOf isEntry l ≡ b → (c : Bool) → eqb (length l) 0 ≡ c → (d : Bool)
+        → allOf (ofZoom (firstZoom l)) l ≡ d
         → (6 when a else 7 when not b else 8 when c else 9 when not d) ≡ 0 → OneZoom l
     pick true p b q c r d s e = absurd (omega arith)
     pick false p false q c r d s e = absurd (omega arith)
@@ -75,7 +76,9 @@ unfolding greatest
 greatest-more [] m = omega arith
 greatest-more (n ∷ ns) m = rw (greatest-more ns m) (omega arith)
 
-pub around-first : (l : List ℕ) → 0 < length l → boxAt (entryTile (getD l 0 0) .z) (entryTile (getD l 0 0) .x) (entryTile (getD l 0 0) .x) (entryTile (getD l 0 0) .y) (entryTile (getD l 0 0) .y) ≡ boxAround (take 1 l)
+pub around-first : (l : List ℕ) → 0 < length l
+    → boxAt (entryTile (getD l 0 0) .z) (entryTile (getD l 0 0) .x) (entryTile (getD l 0 0) .x) (entryTile (getD l 0 0) .y)
+    (entryTile (getD l 0 0) .y) ≡ boxAround (take 1 l)
 unfolding boxAround least greatest
 around-first [] h = absurd (omega arith)
 around-first (n ∷ ns) h = rw (max-zero (entryTile n .x), max-zero (entryTile n .y))
@@ -87,4 +90,13 @@ around-more (n ∷ ns) zero h k = absurd (omega arith)
 around-more (n ∷ ns) (suc i) h k =
     let l : i < length ns = omega arith in
     let m = getD ns i 0 in
-    rw (add-one (suc i), take-suc ns i 0 l, map-append columnOf (take i ns) (m ∷ []), map-append rowOf (take i ns) (m ∷ []), least-more (columnOf n) (map columnOf (take i ns)) (columnOf m), least-more (rowOf n) (map rowOf (take i ns)) (rowOf m), greatest-more (columnOf n ∷ map columnOf (take i ns)) (columnOf m), greatest-more (rowOf n ∷ map rowOf (take i ns)) (rowOf m))
+    rw (
+      add-one (suc i),
+      take-suc ns i 0 l,
+      map-append columnOf (take i ns) (m ∷ []),
+      map-append rowOf (take i ns) (m ∷ []),
+      least-more (columnOf n) (map columnOf (take i ns)) (columnOf m),
+      least-more (rowOf n) (map rowOf (take i ns)) (rowOf m),
+      greatest-more (columnOf n ∷ map columnOf (take i ns)) (columnOf m),
+      greatest-more (rowOf n ∷ map rowOf (take i ns)) (rowOf m),
+    )

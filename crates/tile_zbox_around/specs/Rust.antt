@@ -54,7 +54,8 @@ moved-is b t = rw (lower-is (t .x) (b .minx), higher-is (t .x) (b .maxx), lower-
 
 -- the four numbers and those of a list of at least one tile
 abbrev moved-by : TileZBox → List ℕ → TileZBox
-moved-by b l = boxAt (b .zoom) (min (b .minx) (least (map columnOf l))) (max (b .maxx) (greatest (map columnOf l))) (min (b .miny) (least (map rowOf l))) (max (b .maxy) (greatest (map rowOf l)))
+moved-by b l = boxAt (b .zoom) (min (b .minx) (least (map columnOf l))) (max (b .maxx) (greatest (map columnOf l)))
+    (min (b .miny) (least (map rowOf l))) (max (b .maxy) (greatest (map rowOf l)))
 
 walk-fine : (b : TileZBox) (t : Tile) (ts : List Tile) → eqb (t .z) (b .zoom) ≡ true → rustWalk b (t ∷ ts) ≡ rustWalk (moved b t) ts
 unfolding rustWalk
@@ -82,16 +83,24 @@ max-turned a b c = omega arith
 moved-more : (b : TileZBox) (n m : ℕ) (ms : List ℕ) → moved-by (moved b (entryTile n)) (m ∷ ms) ≡ moved-by b (n ∷ (m ∷ ms))
 unfolding least greatest
 moved-more b n m ms =
-    ap (λ (v : TileZBox). moved-by v (m ∷ ms)) (moved-is b (entryTile n)) ∙ rw (min-turned (columnOf n) (b .minx), max-turned (columnOf n) (b .maxx), min-turned (rowOf n) (b .miny), max-turned (rowOf n) (b .maxy))
+    ap (λ (v : TileZBox). moved-by v (m ∷ ms)) (moved-is b (entryTile n))
+    ∙ rw (
+      min-turned (columnOf n) (b .minx),
+      max-turned (columnOf n) (b .maxx),
+      min-turned (rowOf n) (b .miny),
+      max-turned (rowOf n) (b .maxy),
+    )
 
-walked : (n : ℕ) (ns : List ℕ) (b : TileZBox) → allOf (ofZoom (b .zoom)) (n ∷ ns) ≡ true → rustWalk b (map entryTile (n ∷ ns)) ≡ record { fine = true; box = moved-by b (n ∷ ns) }
+walked : (n : ℕ) (ns : List ℕ) (b : TileZBox) → allOf (ofZoom (b .zoom)) (n ∷ ns) ≡ true
+    → rustWalk b (map entryTile (n ∷ ns)) ≡ record { fine = true; box = moved-by b (n ∷ ns) }
 unfolding allOf
 walked n [] b e =
     let h = and-parts (ofZoom (b .zoom) n) true e in
     walk-fine b (entryTile n) [] (h .0) ∙ (walk-none (moved b (entryTile n)) ∙ ap (λ (v : TileZBox). record { fine = true; box = v }) (moved-one b n))
 walked n (m ∷ ms) b e =
     let h = and-parts (ofZoom (b .zoom) n) (allOf (ofZoom (b .zoom)) (m ∷ ms)) e in
-    walk-fine b (entryTile n) (map entryTile (m ∷ ms)) (h .0) ∙ (walked m ms (moved b (entryTile n)) (h .1) ∙ ap (λ (v : TileZBox). record { fine = true; box = v }) (moved-more b n m ms))
+    walk-fine b (entryTile n) (map entryTile (m ∷ ms)) (h .0)
+    ∙ (walked m ms (moved b (entryTile n)) (h .1) ∙ ap (λ (v : TileZBox). record { fine = true; box = v }) (moved-more b n m ms))
 
 -- of a list of tiles of zoom 0 to 29 that is not refused it is the same box
 pub rust-from-tiles : (l : List ℕ) → listRefusal l ≡ 0 → firstZoom l ≤ 29

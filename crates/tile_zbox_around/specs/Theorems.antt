@@ -47,10 +47,18 @@ pub from-tiles-holds-every-listed-tile : (l : List ℕ) (i : ℕ) → listRefusa
 unfolding boxAround
 from-tiles-holds-every-listed-tile l i e h =
     let k = accepted-one-zoom l e in
-    record { zoom = eqb-true _ _ (all-at (ofZoom (firstZoom l)) l i (k .zooms) h); west = least-below columnOf l i h; east = greatest-above columnOf l i h; north = least-below rowOf l i h; south = greatest-above rowOf l i h }
+    record {
+      zoom = eqb-true _ _ (all-at (ofZoom (firstZoom l)) l i (k .zooms) h);
+      west = least-below columnOf l i h;
+      east =
+          greatest-above columnOf l i h;
+      north = least-below rowOf l i h;
+      south = greatest-above rowOf l i h;
+    }
 
 -- and no smaller box does: every box that holds all of them holds it
-pub no-smaller-box-does : (l : List ℕ) (c : TileZBox) → listRefusal l ≡ 0 → ((i : ℕ) → i < length l → Holds c (entryTile (getD l i 0))) → (t : Tile) → Holds (boxAround l) t → Holds c t
+pub no-smaller-box-does : (l : List ℕ) (c : TileZBox) → listRefusal l ≡ 0 → ((i : ℕ) → i < length l → Holds c (entryTile (getD l i 0)))
+    → (t : Tile) → Holds (boxAround l) t → Holds c t
 unfolding boxAround
 no-smaller-box-does l c e k t h =
     let s = accepted-one-zoom l e .some in
@@ -67,11 +75,16 @@ pub from-tiles-gives-a-box : (l : List ℕ) → listRefusal l ≡ 0 → IsBox (b
 unfolding boxAround
 from-tiles-gives-a-box l e =
     let k = accepted-one-zoom l e in
-    let m : (i : ℕ) → i < length l → OnMap (entryTile (getD l i 0) .x) (entryTile (getD l i 0) .y) (entryTile (getD l i 0) .z) = λ i h. accepted-entry (getD l i 0) (entry-at l i (k .entries) h) in
+    let m : (i : ℕ) → i < length l → OnMap (entryTile (getD l i 0) .x) (entryTile (getD l i 0) .y) (entryTile (getD l i 0) .z) =
+    λ i h. accepted-entry (getD l i 0) (entry-at l i (k .entries) h) in
     let z : (i : ℕ) → i < length l → entryTile (getD l i 0) .z ≡ firstZoom l = λ i h. eqb-true _ _ (all-at (ofZoom (firstZoom l)) l i (k .zooms) h) in
     let p = pow-pos (firstZoom l) in
-    let x = greatest-bound columnOf l (2 ^ firstZoom l - 1) (λ i h. let r : columnOf (getD l i 0) < 2 ^ firstZoom l = subst (λ (n : ℕ). columnOf (getD l i 0) < 2 ^ n) (z i h) (m i h .column) in omega arith) in
-    let y = greatest-bound rowOf l (2 ^ firstZoom l - 1) (λ i h. let r : rowOf (getD l i 0) < 2 ^ firstZoom l = subst (λ (n : ℕ). rowOf (getD l i 0) < 2 ^ n) (z i h) (m i h .row) in omega arith) in
+    let x = greatest-bound columnOf l (2 ^ firstZoom l - 1)
+    (λ i h. let r : columnOf (getD l i 0) < 2 ^ firstZoom l = subst (λ (n : ℕ). columnOf (getD l i 0) < 2 ^ n) (z i h) (m i h .column) in
+    omega arith) in
+    let y = greatest-bound rowOf l (2 ^ firstZoom l - 1)
+    (λ i h. let r : rowOf (getD l i 0) < 2 ^ firstZoom l = subst (λ (n : ℕ). rowOf (getD l i 0) < 2 ^ n) (z i h) (m i h .row) in
+    omega arith) in
     record {
       zoom = m 0 (k .some) .zoom;
       columns = omega (arith, least-below columnOf l 0 (k .some), greatest-above columnOf l 0 (k .some));

@@ -77,7 +77,13 @@ row-turned b k s i a h =
     let r : s .row + 1 - b .miny ≡ suc (s .row - b .miny) = omega arith in
     let z : b .minx - b .minx ≡ 0 = omega arith in
     let p : (s .row - b .miny) * columnsOf b + columnsOf b ≡ k = rw w at (a .place) in
-    record { west = omega arith; east = omega (arith, i .columns); north = omega arith; place = rw (r, z, suc-mul (s .row - b .miny) (columnsOf b)) (omega arith) }
+    record {
+      west = omega arith;
+      east = omega (arith, i .columns);
+      north = omega arith;
+      place =
+          rw (r, z, suc-mul (s .row - b .miny) (columnsOf b)) (omega arith);
+    }
 
 turned-after : (b : TileZBox) (k : ℕ) (s : RustState) → Compared b → After b k s → k ≤ boxLength b
     → After b k (rustTurned b s) × (rustTurned b s .column ≤ b .maxx)
@@ -117,7 +123,8 @@ step-inside b k s i a l r =
     let t : tileAt (s .column) (s .row) (b .zoom) ≡ kthTile b k =
     sym (ap (kthTile b) (sym (a .place)) ∙ (kth-place b (s .row - b .miny) (s .column - b .minx) (omega (arith, a .west)) ∙ rw (x, y))) in
     let p : s .column + 1 - b .minx ≡ s .column - b .minx + 1 = omega (arith, a .west) in
-    rw (le-ltb _ _ r, mod-eq-of-lt h) (refl, t, record { west = omega (arith, a .west); east = omega arith; north = a .north; place = rw p (omega (arith, a .place)) })
+    rw (le-ltb _ _ r, mod-eq-of-lt h)
+    (refl, t, record { west = omega (arith, a .west); east = omega arith; north = a .north; place = rw p (omega (arith, a .place)) })
 
 step-past : (b : TileZBox) (s : RustState) → b .maxy < s .row → (rustStep b s .count ≡ 0) × (rustStep b s .state ≡ s)
 step-past b s h = rw (lt-ltb _ _ h) (refl, refl)
@@ -125,7 +132,8 @@ step-past b s h = rw (lt-ltb _ _ h) (refl, refl)
 -- after k tiles, fewer than the box has, the Rust gives tile number k and is after k + 1
 pub rust-gives : (b : TileZBox) (k : ℕ) (s : RustState) → Compared b → After b k s → k < boxLength b
     → (rustNext b s .count ≡ 1) × (rustNext b s .tile ≡ kthTile b k) × After b (k + 1) (rustNext b s .state)
-rust-gives b k s i a h = let t = turned-after b k s i a (le-of-lt h) in step-inside b k (rustTurned b s) i (t .0) (t .1) (row-inside b k (rustTurned b s) i (t .0) h)
+rust-gives b k s i a h = let t = turned-after b k s i a (le-of-lt h) in
+    step-inside b k (rustTurned b s) i (t .0) (t .1) (row-inside b k (rustTurned b s) i (t .0) h)
 
 -- after all of them it gives none, and is still after all of them
 pub rust-ends : (b : TileZBox) (s : RustState) → Compared b → After b (boxLength b) s
@@ -140,7 +148,8 @@ unfoldable pub rustDrained : ℕ → TileZBox → RustState → List Tile
 rustDrained zero b s = []
 rustDrained (suc calls) b s = cond (eqb (rustNext b s .count) 0) [] (rustNext b s .tile ∷ rustDrained calls b (rustNext b s .state))
 
-drained : (b : TileZBox) (calls n k : ℕ) (s : RustState) → Compared b → After b k s → k + n ≡ boxLength b → n < calls → rustDrained calls b s ≡ numberedFrom b k n
+drained : (b : TileZBox) (calls n k : ℕ) (s : RustState) → Compared b → After b k s → k + n ≡ boxLength b → n < calls
+    → rustDrained calls b s ≡ numberedFrom b k n
 unfolding rustDrained numberedFrom
 drained b zero n k s i a e h = absurd (omega arith)
 drained b (suc calls) zero k s i a e h =

@@ -14,7 +14,9 @@ use Rattle.tile_zbox.specs.Box.{IsBox, inBox, Holds, containsOf, boxLength}
 use Rattle.tile_zbox.specs.Laws.{box-accepted, holds-in, in-holds}
 use Rattle.tile_zbox.specs.declared.TileZBox.{TileZBox}
 use Rattle.tile_zbox_iter.specs.Cursor.{cursorAt, kthTile, ended, nextOf, sizeHintOf}
-use Rattle.tile_zbox_iter.specs.Tiles.{tilesOf, numberedFrom, numbered-all, numbered-length, member-number, number-member, kth-holds, placeOf, place-below, kth-of-place, place-of-kth, Gives, next-ends, gives-numbered}
+use Rattle.tile_zbox_iter.specs.Tiles.{tilesOf, numberedFrom, numbered-all, numbered-length, member-number, number-member}
+use Rattle.tile_zbox_iter.specs.Tiles.{kth-holds, placeOf, place-below, kth-of-place, place-of-kth, Gives, next-ends}
+use Rattle.tile_zbox_iter.specs.Tiles.{gives-numbered}
 
 -- "the iterator runs x first, then y": from the start a cursor gives the box's tiles row by row, and is then at its end
 pub the-cursor-gives-the-tiles-row-by-row : (b : TileZBox) → IsBox b → Gives (cursorAt b 0) (tilesOf b) (cursorAt b (boxLength b))
@@ -56,11 +58,15 @@ in-the-list-exactly-if-in-the-box b t i = (there, back)
     back h =
         let e : 0 + placeOf b t ≡ placeOf b t = omega arith in
         let m = number-member b 0 (boxLength b) (placeOf b t) (place-below b t h) in
-        subst (λ (l : List Tile). List·Memᴰ t l) (numbered-all b) (subst (λ (s : Tile). List·Memᴰ s (numberedFrom b 0 (boxLength b))) (ap (kthTile b) e ∙ kth-of-place b t h) m)
+        subst (λ (l : List Tile). List·Memᴰ t l) (numbered-all b)
+        (subst (λ (s : Tile). List·Memᴰ s (numberedFrom b 0 (boxLength b))) (ap (kthTile b) e ∙ kth-of-place b t h) m)
 
-pub contains-exactly-the-tiles : (b : TileZBox) (t : Tile) → IsBox b → OnMap (t .x) (t .y) (t .z) → containsOf b (t .x) (t .y) (t .z) ≡ record { number = 0; value = true } ↔ List·Memᴰ t (tilesOf b)
-contains-exactly-the-tiles b t i m =
-    (λ e. in-the-list-exactly-if-in-the-box b t i .1 (in-holds b t (sym told ∙ ap (λ (a : Answer Bool). a .value) e)), λ k. rw (le-ltb _ _ (i .zoom), on-map-accepted m, box-accepted i, holds-in b t (in-the-list-exactly-if-in-the-box b t i .0 k)))
+pub contains-exactly-the-tiles : (b : TileZBox) (t : Tile) → IsBox b → OnMap (t .x) (t .y) (t .z)
+    → containsOf b (t .x) (t .y) (t .z) ≡ record { number = 0; value = true } ↔ List·Memᴰ t (tilesOf b)
+contains-exactly-the-tiles b t i m = (
+  λ e. in-the-list-exactly-if-in-the-box b t i .1 (in-holds b t (sym told ∙ ap (λ (a : Answer Bool). a .value) e)),
+  λ k. rw (le-ltb _ _ (i .zoom), on-map-accepted m, box-accepted i, holds-in b t (in-the-list-exactly-if-in-the-box b t i .0 k)),
+)
   where
     told : containsOf b (t .x) (t .y) (t .z) .value ≡ inBox b (t .x) (t .y) (t .z)
     told = rw (le-ltb _ _ (i .zoom), on-map-accepted m, box-accepted i)

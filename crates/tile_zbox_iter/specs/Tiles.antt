@@ -70,14 +70,19 @@ numbered-rows b r (suc n) =
     let x : b .minx ≡ b .minx + 0 = omega arith in
     let row : numberedFrom b (r * c) c ≡ rowFrom (b .zoom) (b .miny + r) (b .minx) c =
     ap (λ (k : ℕ). numberedFrom b k c) q ∙ (numbered-row b r 0 c (omega arith) ∙ ap (λ (k : ℕ). rowFrom (b .zoom) (b .miny + r) k c) (sym x)) in
-    ap (numberedFrom b (r * c)) m ∙ (numbered-append b (r * c) c (n * c) ∙ ap₂ _++_ row (ap (λ (k : ℕ). numberedFrom b k (n * c)) p ∙ (numbered-rows b (suc r) n ∙ ap (λ (y : ℕ). rowsFrom b y n) (sym s))))
+    ap (numberedFrom b (r * c)) m
+    ∙ (numbered-append b (r * c) c (n * c)
+    ∙ ap₂ _++_ row (ap (λ (k : ℕ). numberedFrom b k (n * c)) p
+    ∙ (numbered-rows b (suc r) n ∙ ap (λ (y : ℕ). rowsFrom b y n) (sym s))))
 
 pub numbered-all : (b : TileZBox) → numberedFrom b 0 (boxLength b) ≡ tilesOf b
 unfolding boxLength
 numbered-all b =
     let z : 0 * columnsOf b ≡ 0 = omega arith in
     let y : b .miny + 0 ≡ b .miny = omega arith in
-    ap (numberedFrom b 0) (mul-comm (columnsOf b) (rowsOf b)) ∙ (ap (λ (k : ℕ). numberedFrom b k (rowsOf b * columnsOf b)) (sym z) ∙ (numbered-rows b 0 (rowsOf b) ∙ ap (λ (k : ℕ). rowsFrom b k (rowsOf b)) y))
+    ap (numberedFrom b 0) (mul-comm (columnsOf b) (rowsOf b))
+    ∙ (ap (λ (k : ℕ). numberedFrom b k (rowsOf b * columnsOf b)) (sym z)
+    ∙ (numbered-rows b 0 (rowsOf b) ∙ ap (λ (k : ℕ). rowsFrom b k (rowsOf b)) y))
 
 pub numbered-length : (b : TileZBox) (k n : ℕ) → length (numberedFrom b k n) ≡ n
 unfolding numberedFrom
@@ -102,7 +107,9 @@ unfolding numberedFrom
 member-number b t k zero m = absurd (List·Memᴰ·not-nil m)
 member-number b t k (suc n) m = pick (List·Memᴰ·cases-cons m) (member-number b t (suc k) n)
   where
-    pick : (t ≡ kthTile b k) ⊎ List·Memᴰ t (numberedFrom b (suc k) n) → (List·Memᴰ t (numberedFrom b (suc k) n) → (j : ℕ) × (j < suc k + n) × (kthTile b j ≡ t)) → (j : ℕ) × (j < k + suc n) × (kthTile b j ≡ t)
+    pick : (t ≡ kthTile b k) ⊎ List·Memᴰ t (numberedFrom b (suc k) n)
+        → (List·Memᴰ t (numberedFrom b (suc k) n) → (j : ℕ) × (j < suc k + n) × (kthTile b j ≡ t))
+        → (j : ℕ) × (j < k + suc n) × (kthTile b j ≡ t)
     pick (inl e) f = (k, omega arith, sym e)
     pick (inr i) f = let r = f i in let h = r .1 in (r .0, omega arith, r .2)
 
@@ -138,7 +145,9 @@ place-below b t h = rw (mul-comm (columnsOf b) (rowsOf b)) (digits-lt (omega (ar
 
 pub kth-of-place : (b : TileZBox) (t : Tile) → Holds b t → kthTile b (placeOf b t) ≡ t
 kth-of-place b t h =
-    kth-place b (t .y - b .miny) (t .x - b .minx) (omega (arith, h .west, h .east)) ∙ tile-ext (tileAt (b .minx + (t .x - b .minx)) (b .miny + (t .y - b .miny)) (b .zoom)) t (omega (arith, h .west)) (omega (arith, h .north)) (sym (h .zoom))
+    kth-place b (t .y - b .miny) (t .x - b .minx) (omega (arith, h .west, h .east))
+    ∙ tile-ext (tileAt (b .minx + (t .x - b .minx)) (b .miny + (t .y - b .miny)) (b .zoom)) t (omega (arith, h .west))
+    (omega (arith, h .north)) (sym (h .zoom))
 
 pub place-of-kth : (b : TileZBox) (k : ℕ) → placeOf b (kthTile b k) ≡ k
 unfolding kthTile
@@ -152,7 +161,8 @@ pub data Gives : TileZBoxIterator → List Tile → TileZBoxIterator → Type 0 
   none : {c : TileZBoxIterator} → Gives c [] c
   more : {c d e : TileZBoxIterator} {t : Tile} {ts : List Tile} → nextOf c ≡ record { number = 0; value = given t d } → Gives d ts e → Gives c (t ∷ ts) e
 
-pub next-gives : (b : TileZBox) (k : ℕ) → IsBox b → k < boxLength b → nextOf (cursorAt b k) ≡ record { number = 0; value = given (kthTile b k) (cursorAt b (k + 1)) }
+pub next-gives : (b : TileZBox) (k : ℕ) → IsBox b → k < boxLength b
+    → nextOf (cursorAt b k) ≡ record { number = 0; value = given (kthTile b k) (cursorAt b (k + 1)) }
 next-gives b k i h = let l : k ≤ boxLength b = omega arith in rw (box-accepted i, le-ltb _ _ l, lt-ltb _ _ h)
 
 pub next-ends : (b : TileZBox) → IsBox b → nextOf (cursorAt b (boxLength b)) ≡ record { number = 0; value = ended (cursorAt b (boxLength b)) }

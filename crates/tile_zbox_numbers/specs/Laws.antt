@@ -18,13 +18,15 @@ use Rattle.errors.specs.Memory.{front}
 use Rattle.tile_zbox.specs.Box.{boxAt, IsBox, wrongEdges, flipped, boxLength}
 use Rattle.tile_zbox.specs.Laws.{neither, edges-fine, fine-edges, length-within}
 use Rattle.tile_zbox.specs.declared.TileZBox.{TileZBox}
-use Rattle.tile_zbox_numbers.specs.Boxes.{deep, refusalOver, boxesRefusal, sumLengths, boxFrom, boxesFrom, boxesOf, numbersRefusal, numbers, numbersOf, flippedNumbers}
+use Rattle.tile_zbox_numbers.specs.Boxes.{deep, refusalOver, boxesRefusal, sumLengths, boxFrom, boxesFrom, boxesOf, numbersRefusal}
+use Rattle.tile_zbox_numbers.specs.Boxes.{numbers, numbersOf, flippedNumbers}
 
 -- boxes five numbers by five numbers: the box at a place, as the code reads and writes it
 pub box-at : (l : List ℕ) (at : ℕ) → boxAt (getD l at 0) (getD l (at + 1) 0) (getD l (at + 2) 0) (getD l (at + 3) 0) (getD l (at + 4) 0) ≡ boxFrom (drop at l)
 box-at l at = rw (getD-drop at l 0 0, getD-drop at l 1 0, getD-drop at l 2 0, getD-drop at l 3 0, getD-drop at l 4 0, add-zero at)
 
-pub five-sets : (l : List ℕ) (at a b c d e : ℕ) → set (set (set (set (set l at a) (at + 1) b) (at + 2) c) (at + 3) d) (at + 4) e ≡ sets l at (a ∷ b ∷ c ∷ d ∷ e ∷ [])
+pub five-sets : (l : List ℕ) (at a b c d e : ℕ)
+    → set (set (set (set (set l at a) (at + 1) b) (at + 2) c) (at + 3) d) (at + 4) e ≡ sets l at (a ∷ b ∷ c ∷ d ∷ e ∷ [])
 five-sets l at a b c d e =
     let p : at + 1 ≡ suc at = omega arith in
     let q : at + 2 ≡ suc (suc at) = omega arith in
@@ -74,7 +76,12 @@ fine-first b bs f =
     (edges-fine b (ltb-false _ _ (p .0)) (q .0), record { shallow = p .1; edges = q .1 })
 
 pub fine-more : {b : TileZBox} {bs : List TileZBox} → IsBox b → Fine bs → Fine (b ∷ bs)
-fine-more {b} {bs} h f = record { shallow = any-later deep b bs (le-ltb _ _ (h .zoom)) ∙ f .shallow; edges = any-later wrongEdges b bs (fine-edges h) ∙ f .edges }
+fine-more {b} {bs} h f =
+    record {
+      shallow = any-later deep b bs (le-ltb _ _ (h .zoom)) ∙ f .shallow;
+      edges =
+          any-later wrongEdges b bs (fine-edges h) ∙ f .edges;
+    }
 
 -- the zoom of the next box, as the code reads it
 pub first-zoom : (l : List ℕ) (at : ℕ) → getD (drop at l) 0 0 ≡ getD l at 0
@@ -95,7 +102,8 @@ pub accepted-over : (bs : List TileZBox) (n : ℕ) → refusalOver bs n ≡ 0 �
 unfolding refusalOver
 accepted-over bs n e = pick (anyOf deep bs) refl (ltb maxBoxes n) refl (anyOf wrongEdges bs) refl e
   where
-    pick : (a : Bool) → anyOf deep bs ≡ a → (b : Bool) → ltb maxBoxes n ≡ b → (c : Bool) → anyOf wrongEdges bs ≡ c → (1 when a else 6 when b else 10 when c) ≡ 0 → Fine bs × (n ≤ maxBoxes)
+    pick : (a : Bool) → anyOf deep bs ≡ a → (b : Bool) → ltb maxBoxes n ≡ b → (c : Bool) → anyOf wrongEdges bs ≡ c
+        → (1 when a else 6 when b else 10 when c) ≡ 0 → Fine bs × (n ≤ maxBoxes)
     pick true p b q c r e = absurd (omega arith)
     pick false p true q c r e = absurd (omega arith)
     pick false p false q true r e = absurd (omega arith)
@@ -199,7 +207,8 @@ front-on items memory vs rest at g e h =
     let k : at + length vs ≤ length (front at items memory) = rw (length-append, p, length-drop) (omega arith) in
     let t : take at (front at items memory) ≡ take at items = take-at (take at items) (drop at memory) at p in
     let d : drop (at + length vs) (front at items memory) ≡ drop (at + length vs) memory =
-    sym (drop-drop (length vs) at (front at items memory)) ∙ (ap (drop (length vs)) (drop-at (take at items) (drop at memory) at p) ∙ drop-drop (length vs) at memory) in
+    sym (drop-drop (length vs) at (front at items memory))
+    ∙ (ap (drop (length vs)) (drop-at (take at items) (drop at memory) at p) ∙ drop-drop (length vs) at memory) in
     let n : take (at + length vs) items ≡ take at items ++ vs =
     take-add at (length vs) items ∙ ap (λ (x : List ℕ). take at items ++ x) (ap (take (length vs)) e ∙ take-at vs rest (length vs) refl) in
     sets-eq vs (front at items memory) at k ∙ rw (t, d, n, append-assoc)
@@ -214,5 +223,9 @@ flip-on l memory n at h f w m e =
     let bs = boxesFrom (n - 1) (drop (at + 5) l) in
     let s : drop at (flippedNumbers l) ≡ numbers (flipped b) ++ numbersOf (map flipped bs) =
     e ∙ (ap (λ (x : List TileZBox). numbersOf (map flipped x)) (boxes-step n at l h) ∙ numbers-step b bs) in
-    let g = flipped-length l w in
-    (sym (drop-drop 5 at (flippedNumbers l)) ∙ ap (drop 5) s, front-on (flippedNumbers l) memory (numbers (flipped b)) (numbersOf (map flipped bs)) at (omega arith) s (omega arith))
+    let g = flipped-length l w in (
+      sym (drop-drop 5 at (flippedNumbers l))
+          ∙ ap (drop 5) s,
+      front-on (flippedNumbers l) memory (numbers (flipped b)) (numbersOf (map flipped bs)) at (omega arith) s
+          (omega arith),
+    )

@@ -42,7 +42,8 @@ pub too-many-boxes-are-6 : (bs : List TileZBox) → anyOf deep bs ≡ false → 
 unfolding refusalOver
 too-many-boxes-are-6 bs e h = rw (e, lt-ltb _ _ h)
 
-pub a-wrong-box-is-10 : (bs : List TileZBox) (b : TileZBox) → anyOf deep bs ≡ false → length bs ≤ maxBoxes → List·Memᴰ b bs → wrongEdges b ≡ true → boxesLengthOf bs ≡ record { number = 10; value = 0 }
+pub a-wrong-box-is-10 : (bs : List TileZBox) (b : TileZBox) → anyOf deep bs ≡ false → length bs ≤ maxBoxes → List·Memᴰ b bs
+    → wrongEdges b ≡ true → boxesLengthOf bs ≡ record { number = 10; value = 0 }
 unfolding refusalOver
 a-wrong-box-is-10 bs b e h m w = rw (e, le-ltb _ _ h, in-any wrongEdges bs m w)
 

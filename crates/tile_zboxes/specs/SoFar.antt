@@ -61,7 +61,8 @@ none-of-few n h = rw (any-none deep, le-ltb _ _ h, any-none wrongEdges, sum-none
 
 -- one box more: the lowest number over the boxes and the count, and that of the box
 lowest-more : (deeper many wrong d w : Bool) (s l : ℕ)
-    → answer (1 when (deeper || d) else 6 when many else 10 when (wrong || w)) 0 (s + l) ≡ answer (1 when deeper else 6 when many else 10 when wrong) 0 s plus answer (1 when d else 10 when w) 0 l
+    → answer (1 when (deeper || d) else 6 when many else 10 when (wrong || w)) 0 (s + l)
+    ≡ answer (1 when deeper else 6 when many else 10 when wrong) 0 s plus answer (1 when d else 10 when w) 0 l
 unfolding _plus_ lowest
 lowest-more true many wrong true w s l = refl
 lowest-more true many wrong false true s l = refl
@@ -91,7 +92,8 @@ sum-last (a ∷ bs) b = rw (sum-last bs b) (sym (add-assoc (boxLength a) (sumLen
 
 one-more : (n : ℕ) (bs : List TileZBox) (b : TileZBox) → soFar n (bs ++ (b ∷ [])) ≡ soFar n bs plus lengthOf b
 unfolding refusalOver boxRefusal
-one-more n bs b = rw (any-last deep bs b, any-last wrongEdges bs b, sum-last bs b) (lowest-more (anyOf deep bs) (ltb maxBoxes n) (anyOf wrongEdges bs) (deep b) (wrongEdges b) (sumLengths bs) (boxLength b))
+one-more n bs b = rw (any-last deep bs b, any-last wrongEdges bs b, sum-last bs b)
+    (lowest-more (anyOf deep bs) (ltb maxBoxes n) (anyOf wrongEdges bs) (deep b) (wrongEdges b) (sumLengths bs) (boxLength b))
 
 -- the box at place i of the list, where the first i are read
 pub with-next : (n i : ℕ) (bs : List TileZBox) → i < length bs → soFar n (take i bs) plus lengthOf (getD bs i noBox) ≡ soFar n (take (i + 1) bs)

@@ -29,7 +29,9 @@ in-the-first b bs k h = List·getD-append (tilesOf b) (tilesOfAll bs) noTile k (
 
 pub behind-the-first : (b : TileZBox) (bs : List TileZBox) (k : ℕ) → getD (tilesOfAll (b ∷ bs)) (boxLength b + k) noTile ≡ getD (tilesOfAll bs) k noTile
 unfolding tilesOfAll
-behind-the-first b bs k = ap (λ (n : ℕ). getD (tilesOf b ++ tilesOfAll bs) (n + k) noTile) (sym (length-counts-the-tiles b)) ∙ getD-append-add (tilesOf b) (tilesOfAll bs) k noTile
+behind-the-first b bs k =
+    ap (λ (n : ℕ). getD (tilesOf b ++ tilesOfAll bs) (n + k) noTile) (sym (length-counts-the-tiles b))
+    ∙ getD-append-add (tilesOf b) (tilesOfAll bs) k noTile
 
 -- numbers that are boxes, and a place among the tiles of these
 pub record Ahead (l : List ℕ) (k : ℕ) : Type 0 where
@@ -90,7 +92,8 @@ pub ahead-later : {l : List ℕ} {k : ℕ} → Ahead l k → boxLength (boxFrom 
 ahead-later {l} {k} a h =
     let f = first-box a in
     let p = as-many-as-the-sum (boxesOf l) in
-    let q : sumLengths (boxesOf l) ≡ boxLength (boxFrom l) + sumLengths (boxesOf (drop 5 l)) = ap sumLengths (f .split) ∙ sum-step (boxFrom l) (boxesOf (drop 5 l)) in
+    let q : sumLengths (boxesOf l) ≡ boxLength (boxFrom l) + sumLengths (boxesOf (drop 5 l)) =
+    ap sumLengths (f .split) ∙ sum-step (boxFrom l) (boxesOf (drop 5 l)) in
     let r = as-many-as-the-sum (boxesOf (drop 5 l)) in
     record { boxes = f .rest; place = omega (arith, a .place) }
 

@@ -35,4 +35,5 @@ rust-collected (b ∷ bs) calls f z h =
 -- the `Vec` is then walked from its front to its end: the cursor gives the same tiles in the same order, and no more
 pub rust-into-iter : (l : List ℕ) (calls : ℕ) → numbersRefusal l ≡ 0 → AllTo29 (boxesOf l) → 2 ^ 61 ≤ calls
     → Gives l (boxesCursorAt 0) (rustCollected calls (boxesOf l)) (boxesCursorAt (length (rustCollected calls (boxesOf l))))
-rust-into-iter l calls e z h = rw (rust-collected (boxesOf l) calls (accepted-all-boxes l e .fine) z h, as-many-as-the-sum (boxesOf l)) (every-box-in-its-turn l e)
+rust-into-iter l calls e z h =
+    rw (rust-collected (boxesOf l) calls (accepted-all-boxes l e .fine) z h, as-many-as-the-sum (boxesOf l)) (every-box-in-its-turn l e)

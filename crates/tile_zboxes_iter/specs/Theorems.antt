@@ -23,7 +23,8 @@ use Rattle.tile_zboxes_iter.specs.declared.TileZBoxesIterator.{TileZBoxe
 -- calls of `next` on the same numbers, from a cursor on: the tiles that they give one by one, and the cursor that they leave
 pub data Gives (list : List ℕ) : TileZBoxesIterator → List Tile → TileZBoxesIterator → Type 0 where
   none : {c : TileZBoxesIterator} → Gives list c [] c
-  more : {c d e : TileZBoxesIterator} {t : Tile} {ts : List Tile} → boxesNextOf c list ≡ record { number = 0; value = given t d } → Gives list d ts e → Gives list c (t ∷ ts) e
+  more : {c d e : TileZBoxesIterator} {t : Tile} {ts : List Tile} → boxesNextOf c list ≡ record { number = 0; value = given t d }
+      → Gives list d ts e → Gives list c (t ∷ ts) e
 
 -- before the end the tile at its place is given
 gives-the-next : (l : List ℕ) (n : ℕ) → numbersRefusal l ≡ 0 → n < length (tilesOfAll (boxesOf l))
@@ -56,11 +57,13 @@ then-nothing-for-ever l e =
     rw (← s, e, le-ltb _ _ h)
 
 -- one more given than they hold together is 10
-pub past-the-last-is-10 : (l : List ℕ) (n : ℕ) → numbersRefusal l ≡ 0 → sumLengths (boxesOf l) < n → boxesNextOf (boxesCursorAt n) l ≡ record { number = 10; value = noStep }
+pub past-the-last-is-10 : (l : List ℕ) (n : ℕ) → numbersRefusal l ≡ 0 → sumLengths (boxesOf l) < n
+    → boxesNextOf (boxesCursorAt n) l ≡ record { number = 10; value = noStep }
 past-the-last-is-10 l n e h = let k : length (tilesOfAll (boxesOf l)) < n = omega (arith, as-many-as-the-sum (boxesOf l)) in rw (e, lt-ltb _ _ k)
 
 -- boxes that the sum refuses are refused by the same number, wherever the cursor stands
-pub refused-as-the-sum : (l : List ℕ) (c : TileZBoxesIterator) (n : ℕ) → numbersLengthOf l ≡ record { number = suc n; value = 0 } → boxesNextOf c l ≡ record { number = suc n; value = noStep }
+pub refused-as-the-sum : (l : List ℕ) (c : TileZBoxesIterator) (n : ℕ) → numbersLengthOf l ≡ record { number = suc n; value = 0 }
+    → boxesNextOf c l ≡ record { number = suc n; value = noStep }
 refused-as-the-sum l c n e = rw (number (numbersRefusal l) e)
   where
     number : (r : ℕ) → answer r 0 (sumLengths (boxesOf l)) ≡ record { number = suc n; value = 0 } → r ≡ suc n
@@ -83,7 +86,8 @@ sum-at [] b bs = omega arith
 sum-at (a ∷ front) b bs = omega (arith, sum-at front b bs)
 
 -- each box's tiles are given as its own cursor gives them, behind those of the boxes before it
-pub each-as-its-own-cursor-gives-it : (l : List ℕ) (front : List TileZBox) (b : TileZBox) (bs : List TileZBox) (k : ℕ) → numbersRefusal l ≡ 0 → boxesOf l ≡ front ++ (b ∷ bs) → k < boxLength b
+pub each-as-its-own-cursor-gives-it : (l : List ℕ) (front : List TileZBox) (b : TileZBox) (bs : List TileZBox) (k : ℕ)
+    → numbersRefusal l ≡ 0 → boxesOf l ≡ front ++ (b ∷ bs) → k < boxLength b
     → (t : Tile) × (one.nextOf (one.cursorAt b k) ≡ record { number = 0; value = one.given t (one.cursorAt b (k + 1)) })
     × (boxesNextOf (boxesCursorAt (sumLengths front + k)) l ≡ record { number = 0; value = given t (boxesCursorAt (sumLengths front + k + 1)) })
 each-as-its-own-cursor-gives-it l front b bs k e s h =

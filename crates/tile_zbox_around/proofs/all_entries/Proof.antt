@@ -38,7 +38,11 @@ loop-less : tie.Need-loop-less Inv-loop μ-loop
 loop-less c = search needs
 
 loop-again : tie.Need-loop-again Inv-loop μ-loop
-loop-again c = (omega arith, c .before .before .before .before .loop .inv .1 ∙ all-here isEntry _ _ (c .before .before .before .loop-test .taken) (sym (c .before .is-entry .ensures) ∙ not-false _ (c .if1 .left)))
+loop-again c = (
+  omega arith,
+  c .before .before .before .before .loop .inv .1
+      ∙ all-here isEntry _ _ (c .before .before .before .loop-test .taken) (sym (c .before .is-entry .ensures) ∙ not-false _ (c .if1 .left)),
+)
 
 returns-2 : tie.Need-returns-2 Inv-loop μ-loop
 returns-2 c = sym (c .before .loop .inv .1 ∙ all-past isEntry _ _ (c .loop-test .left))

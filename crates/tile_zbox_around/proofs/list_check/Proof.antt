@@ -40,16 +40,27 @@ listed-requires c κs = entry-at _ _ (entries (c .before .before)) (omega arith)
 all-of-zoom-requires : tie.Need-all-of-zoom-requires
 all-of-zoom-requires c κs = entries (c .before .before .before)
 
-zooms : (c : tie.After-all-of-zoom) → allOf (ofZoom (firstZoom (c .before .before .before .before .before .before .before .before .args .list .now))) (c .before .before .before .before .before .before .before .before .args .list .now) ≡ c .all-of-zoom .result
-zooms c = let l = c .before .before .before .before .before .before .before .before .args .list .now in sym (c .all-of-zoom .ensures ∙ ap (λ (t : Tile). allOf (ofZoom (t .z)) l) (c .before .listed .ensures))
+zooms : (c : tie.After-all-of-zoom)
+    → allOf (ofZoom (firstZoom (c .before .before .before .before .before .before .before .before .args .list .now)))
+    (c .before .before .before .before .before .before .before .before .args .list .now) ≡ c .all-of-zoom .result
+zooms c = let l = c .before .before .before .before .before .before .before .before .args .list .now in
+    sym (c .all-of-zoom .ensures ∙ ap (λ (t : Tile). allOf (ofZoom (t .z)) l) (c .before .listed .ensures))
 
 returns-4 : tie.Need-returns-4
 unfolding maxEntries
-returns-4 c = sym (list-mixed _ (c .before .before .before .before .before .before .before .if1 .left) (entries (c .before .before .before .before .before)) (c .before .before .before .before .if3 .left) (zooms (c .before) ∙ not-true _ (c .if4 .taken)))
+returns-4 c = sym (list-mixed _ (c .before .before .before .before .before .before .before .if1 .left) (entries (c .before .before .before .before .before))
+    (c .before .before .before .before .if3 .left) (zooms (c .before) ∙ not-true _ (c .if4 .taken)))
 
 returns-5 : tie.Need-returns-5
 unfolding maxEntries
-returns-5 c = sym (one-zoom-accepted (record { few = c .before .before .before .before .before .before .before .if1 .left; entries = entries (c .before .before .before .before .before); some = omega arith; zooms = zooms (c .before) ∙ not-false _ (c .if4 .left) }))
+returns-5 c = sym (one-zoom-accepted
+    (record {
+      few = c .before .before .before .before .before .before .before .if1 .left;
+      entries = entries (c .before .before .before .before .before);
+      some =
+          omega arith;
+      zooms = zooms (c .before) ∙ not-false _ (c .if4 .left);
+    }))
 
 pub list-check-spec : {M : Type 1} → statement M
 list-check-spec =

@@ -35,7 +35,8 @@ unfolding maxZoom
 returns c =
     let l = c .before .before .before .before .args .boxes .now in
     let i = c .before .before .before .loop in
-    sym (i .inv .1 ∙ (ap (anyOf deep) (boxes-step (i .left) (i .at) l (c .before .before .loop-test .taken)) ∙ any-here deep (boxFrom (drop (i .at) l)) _ (lt-ltb maxZoom (getD (drop (i .at) l) 0 0) (rw (first-zoom l (i .at)) (c .if1 .taken)))))
+    sym (i .inv .1 ∙ (ap (anyOf deep) (boxes-step (i .left) (i .at) l (c .before .before .loop-test .taken))
+    ∙ any-here deep (boxFrom (drop (i .at) l)) _ (lt-ltb maxZoom (getD (drop (i .at) l) 0 0) (rw (first-zoom l (i .at)) (c .if1 .taken)))))
 
 add-at : tie.Need-add-at Inv-loop μ-loop
 add-at c = search needs
@@ -50,8 +51,12 @@ loop-again : tie.Need-loop-again Inv-loop μ-loop
 unfolding maxZoom
 loop-again c =
     let l = c .before .before .before .before .args .boxes .now in
-    let i = c .before .before .before .loop in
-    (omega arith, i .inv .1 ∙ (ap (anyOf deep) (boxes-step (i .left) (i .at) l (c .before .before .loop-test .taken)) ∙ any-later deep (boxFrom (drop (i .at) l)) _ (le-ltb maxZoom (getD (drop (i .at) l) 0 0) (rw (first-zoom l (i .at)) (c .if1 .left)))))
+    let i = c .before .before .before .loop in (
+      omega arith,
+      i .inv .1
+          ∙ (ap (anyOf deep) (boxes-step (i .left) (i .at) l (c .before .before .loop-test .taken))
+          ∙ any-later deep (boxFrom (drop (i .at) l)) _ (le-ltb maxZoom (getD (drop (i .at) l) 0 0) (rw (first-zoom l (i .at)) (c .if1 .left)))),
+    )
 
 returns-2 : tie.Need-returns-2 Inv-loop μ-loop
 returns-2 c = sym (c .before .loop .inv .1 ∙ (ap (anyOf deep) (boxes-end (c .before .loop .left) (c .before .loop .at) (c .before .before .args .boxes .now) (omega arith)) ∙ any-none deep))

@@ -13,7 +13,9 @@ use Rattle.tile_zbox_numbers.proofs.any_wrong.Statement.{statement}
 use Rattle.tile_zbox_numbers.proofs.any_wrong.Tie as tie
 
 abbrev Inv-loop : tie.InvT-loop
-Inv-loop boxes left₀ at₀ left at = (at + left * 5 ≤ length boxes) × (anyOf deep (boxesFrom left (drop at boxes)) ≡ false) × (anyOf wrongEdges (boxesOf boxes) ≡ anyOf wrongEdges (boxesFrom left (drop at boxes)))
+Inv-loop boxes left₀ at₀ left at =
+    (at + left * 5 ≤ length boxes) × (anyOf deep (boxesFrom left (drop at boxes)) ≡ false)
+    × (anyOf wrongEdges (boxesOf boxes) ≡ anyOf wrongEdges (boxesFrom left (drop at boxes)))
 
 abbrev μ-loop : tie.MeasureT-loop
 μ-loop boxes left₀ at₀ left at = left
@@ -25,16 +27,20 @@ box-at-requires : tie.Need-box-at-requires Inv-loop μ-loop
 box-at-requires c κs = (omega arith, zoom-at (c .before .loop .left) (c .before .loop .at) _ (c .loop-test .taken) (c .before .loop .inv .1))
 
 wrong-edges-requires : tie.Need-wrong-edges-requires Inv-loop μ-loop
-wrong-edges-requires c κs = rw (c .box-at .ensures, first-zoom (c .before .before .before .before .args .boxes .now) (c .before .before .loop .at)) (zoom-at (c .before .before .loop .left) (c .before .before .loop .at) _ (c .before .loop-test .taken) (c .before .before .loop .inv .1))
+wrong-edges-requires c κs =
+    rw (c .box-at .ensures, first-zoom (c .before .before .before .before .args .boxes .now) (c .before .before .loop .at))
+    (zoom-at (c .before .before .loop .left) (c .before .before .loop .at) _ (c .before .loop-test .taken) (c .before .before .loop .inv .1))
 
-edges : (c : tie.After-wrong-edges Inv-loop μ-loop) → wrongEdges (boxFrom (drop (c .before .before .before .loop .at) (c .before .before .before .before .before .args .boxes .now))) ≡ c .wrong-edges .result
+edges : (c : tie.After-wrong-edges Inv-loop μ-loop)
+    → wrongEdges (boxFrom (drop (c .before .before .before .loop .at) (c .before .before .before .before .before .args .boxes .now))) ≡ c .wrong-edges .result
 edges c = sym (c .wrong-edges .ensures ∙ ap wrongEdges (c .before .box-at .ensures))
 
 returns : tie.Need-returns Inv-loop μ-loop
 returns c =
     let l = c .before .before .before .before .before .before .args .boxes .now in
     let i = c .before .before .before .before .loop in
-    sym (i .inv .2 ∙ (ap (anyOf wrongEdges) (boxes-step (i .left) (i .at) l (c .before .before .before .loop-test .taken)) ∙ any-here wrongEdges (boxFrom (drop (i .at) l)) _ (edges (c .before) ∙ c .if1 .taken)))
+    sym (i .inv .2 ∙ (ap (anyOf wrongEdges) (boxes-step (i .left) (i .at) l (c .before .before .before .loop-test .taken))
+    ∙ any-here wrongEdges (boxFrom (drop (i .at) l)) _ (edges (c .before) ∙ c .if1 .taken)))
 
 add-at : tie.Need-add-at Inv-loop μ-loop
 add-at c = search needs
@@ -54,7 +60,9 @@ loop-again c =
     (omega arith, d .1, i .inv .2 ∙ (ap (anyOf wrongEdges) s ∙ any-later wrongEdges (boxFrom (drop (i .at) l)) _ (edges (c .before) ∙ c .if1 .left)))
 
 returns-2 : tie.Need-returns-2 Inv-loop μ-loop
-returns-2 c = sym (c .before .loop .inv .2 ∙ (ap (anyOf wrongEdges) (boxes-end (c .before .loop .left) (c .before .loop .at) (c .before .before .before .args .boxes .now) (omega arith)) ∙ any-none wrongEdges))
+returns-2 c = sym (c .before .loop .inv .2
+    ∙ (ap (anyOf wrongEdges) (boxes-end (c .before .loop .left) (c .before .loop .at) (c .before .before .before .args .boxes .now) (omega arith))
+    ∙ any-none wrongEdges))
 
 pub any-wrong-spec : {M : Type 1} → statement M
 any-wrong-spec =

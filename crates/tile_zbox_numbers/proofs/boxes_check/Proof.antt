@@ -36,7 +36,13 @@ returns-4 c = sym (boxes-wrong _ (shallow (c .before .before .before .before)) (
 
 returns-5 : tie.Need-returns-5
 unfolding maxBoxes
-returns-5 c = sym (all-boxes-accepted (record { fine = record { shallow = shallow (c .before .before .before .before); edges = sym (c .before .any-wrong .ensures) ∙ c .if4 .left }; few = c .before .before .before .if2 .left; whole = c .before .before .if3 .left }))
+returns-5 c = sym (all-boxes-accepted
+    (record {
+      fine = record { shallow = shallow (c .before .before .before .before); edges = sym (c .before .any-wrong .ensures) ∙ c .if4 .left };
+      few =
+          c .before .before .before .if2 .left;
+      whole = c .before .before .if3 .left;
+    }))
 
 pub boxes-check-spec : {M : Type 1} → statement M
 boxes-check-spec =

@@ -34,10 +34,12 @@ returns-2 c =
     let a = c .before .before .before .before .before .before .before .before .before .before .args in
     let f = (check-fine (c .before .before .before .before .before .enum-told .given .1) (c .before .before .before .before .before .before .before .boxes-check .ensures)) in
     let e = flipped-length (a .boxes .now) (accepted-all-boxes _ f .whole) in
-    written-done (flippedNumbers (a .boxes .now)) (a .out .now) (c .before .before .flip-all .last .1 .0) f (rw e (c .before .before .before .before .if1 .left)) (sym e) (rw e (c .before .before .flip-all .ensures))
+    written-done (flippedNumbers (a .boxes .now)) (a .out .now) (c .before .before .flip-all .last .1 .0) f
+    (rw e (c .before .before .before .before .if1 .left)) (sym e) (rw e (c .before .before .flip-all .ensures))
 
 returns-3 : tie.Need-returns-3
-returns-3 c = written-refused (c .before .why .given .0 .0) (flippedNumbers (c .before .before .before .before .before .before .args .boxes .now)) _ (check-refused (c .before .why .given .1) (c .before .before .before .boxes-check .ensures))
+returns-3 c = written-refused (c .before .why .given .0 .0) (flippedNumbers (c .before .before .before .before .before .before .args .boxes .now)) _
+    (check-refused (c .before .why .given .1) (c .before .before .before .boxes-check .ensures))
 
 pub boxes-flipy-spec : {M : Type 1} → statement M
 boxes-flipy-spec =

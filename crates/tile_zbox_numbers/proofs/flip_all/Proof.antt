@@ -15,7 +15,8 @@ use Rattle.tile_zbox_numbers.proofs.flip_all.Tie as tie
 
 abbrev Inv-loop : tie.InvT-loop
 Inv-loop boxes out₀ left₀ at₀ out left at =
-    (at + left * 5 ≡ length boxes) × Fine (boxesFrom left (drop at boxes)) × (drop at (flippedNumbers boxes) ≡ numbersOf (map flipped (boxesFrom left (drop at boxes)))) × (out ≡ front at (flippedNumbers boxes) out₀)
+    (at + left * 5 ≡ length boxes) × Fine (boxesFrom left (drop at boxes))
+    × (drop at (flippedNumbers boxes) ≡ numbersOf (map flipped (boxesFrom left (drop at boxes)))) × (out ≡ front at (flippedNumbers boxes) out₀)
 
 abbrev μ-loop : tie.MeasureT-loop
 μ-loop boxes out₀ left₀ at₀ out left at = left
@@ -28,7 +29,8 @@ box-at-requires c κs = (omega arith, zoom-at (c .before .before .loop .left) (c
 
 -- the next box, and those after it
 next : (c : tie.In-loop Inv-loop μ-loop)
-    → IsBox (boxFrom (drop (c .before .loop .at) (c .before .before .before .before .args .boxes .now))) × Fine (boxesFrom (c .before .loop .left - 1) (drop (c .before .loop .at + 5) (c .before .before .before .before .args .boxes .now)))
+    → IsBox (boxFrom (drop (c .before .loop .at) (c .before .before .before .before .args .boxes .now)))
+    × Fine (boxesFrom (c .before .loop .left - 1) (drop (c .before .loop .at + 5) (c .before .before .before .before .args .boxes .now)))
 next c =
     let i = c .before .loop in
     fine-first _ _ (rw (boxes-step (i .left) (i .at) (c .before .before .before .before .args .boxes .now) (c .loop-test .taken)) at (i .inv .1))

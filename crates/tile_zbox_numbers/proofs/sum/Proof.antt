@@ -11,7 +11,8 @@ use Rattle.tile_zbox_numbers.proofs.sum.Statement.{statement}
 use Rattle.tile_zbox_numbers.proofs.sum.Tie as tie
 
 abbrev Inv-loop : tie.InvT-loop
-Inv-loop boxes left₀ at₀ total₀ left at total = (at + left * 5 ≤ length boxes) × Fine (boxesFrom left (drop at boxes)) × (total + sumLengths (boxesFrom left (drop at boxes)) ≡ sumLengths (boxesOf boxes))
+Inv-loop boxes left₀ at₀ total₀ left at total =
+    (at + left * 5 ≤ length boxes) × Fine (boxesFrom left (drop at boxes)) × (total + sumLengths (boxesFrom left (drop at boxes)) ≡ sumLengths (boxesOf boxes))
 
 abbrev μ-loop : tie.MeasureT-loop
 μ-loop boxes left₀ at₀ total₀ left at total = left
@@ -24,14 +25,19 @@ box-at-requires c κs = (omega arith, zoom-at (c .before .loop .left) (c .before
 
 -- the next box, and those after it
 next : (c : tie.In-loop Inv-loop μ-loop)
-    → IsBox (boxFrom (drop (c .before .loop .at) (c .before .before .before .args .boxes .now))) × Fine (boxesFrom (c .before .loop .left - 1) (drop (c .before .loop .at + 5) (c .before .before .before .args .boxes .now)))
+    → IsBox (boxFrom (drop (c .before .loop .at) (c .before .before .before .args .boxes .now)))
+    × Fine (boxesFrom (c .before .loop .left - 1) (drop (c .before .loop .at + 5) (c .before .before .before .args .boxes .now)))
 next c =
     let l = c .before .before .before .args .boxes .now in
     let i = c .before .loop in
     fine-first _ _ (rw (boxes-step (i .left) (i .at) l (c .loop-test .taken)) at (i .inv .1))
 
-sum-on : (c : tie.After-count Inv-loop μ-loop) → sumLengths (boxesFrom (c .before .before .before .loop .left) (drop (c .before .before .before .loop .at) (c .before .before .before .before .before .args .boxes .now)))
-    ≡ c .count .result + sumLengths (boxesFrom (c .before .before .before .loop .left - 1) (drop (c .before .before .before .loop .at + 5) (c .before .before .before .before .before .args .boxes .now)))
+sum-on : (c : tie.After-count Inv-loop μ-loop)
+    → sumLengths (boxesFrom (c .before .before .before .loop .left)
+    (drop (c .before .before .before .loop .at) (c .before .before .before .before .before .args .boxes .now)))
+    ≡ c .count .result + sumLengths
+    (boxesFrom (c .before .before .before .loop .left - 1)
+    (drop (c .before .before .before .loop .at + 5) (c .before .before .before .before .before .args .boxes .now)))
 sum-on c =
     let l = c .before .before .before .before .before .args .boxes .now in
     let i = c .before .before .before .loop in

@@ -28,9 +28,11 @@ use prog.Wp.{Heap, Env, Calls, Loops, Wp, WpFn, Tables, afterSeq, afterBlock, af
 use ghost.Atoms.{Atoms, sem}
 use contract.Monad.{Fun, fact}
 use contract.Running.{givenOf, tables, tablesOf}
-use types.Kit.{Given, Item, ‵, raw, _⊛_, ⋆, some, later, Post as Then, post, anyQ, atRet, prop, runs, frees, Seq, Sq, _$_, _∵_, !, qed, by, move, drop, use0, use1, split, join, pick, rewrite, fsplit, fjoin, suffices, frame, await, done}
+use types.Kit.{Given, Item, ‵, raw, _⊛_, ⋆, some, later, Post as Then, post, anyQ, atRet, prop, runs, frees, Seq, Sq, _$_, _∵_, !, qed, by, move, drop, use0}
+use types.Kit.{use1, split, join, pick, rewrite, fsplit, fjoin, suffices, frame, await, done}
 use types.Part.{whole, sub, look-in}
-use types.Run.{Opd, look, look-raw, store, init, forget, stop, hop, fld, from, load, lit, of-opd, bin, and-then, no-more, assigns, assigns-last, land, first, skips, jumps, blocks, branches, returns, enter, alloc1, alloc0, params1, pass1, pass0, free1, free0, exec, Below, again, loops}
+use types.Run.{Opd, look, look-raw, store, init, forget, stop, hop, fld, from, load, lit, of-opd, bin, and-then, no-more, assigns, assigns-last, land, first}
+use types.Run.{skips, jumps, blocks, branches, returns, enter, alloc1, alloc0, params1, pass1, pass0, free1, free0, exec, Below, again, loops}
 use types.Share.{arr-parts}
 use sound.WpLaws.{fmOf, WpFn-mono}
 use denote.RattleType.{owns}
@@ -127,7 +129,8 @@ module _ {M : Type 1} (𝓤 : URA M) (H : Heap 𝓤) (A : Atoms 𝓤) (W : Given
   to-start n = ((tt, tt, tt, (n, tt), (vint w64 n ∷ [], tt)), tt)
 
   asks-start : (n : ℕ) → n < 2 ^ 64 → ent 𝓤 (emp 𝓤) (Start 𝓤 H A mem run .pre (to-start n))
-  asks-start n fits = qed W [] ∵ nothing ! $ owned ! usize (Is usize) (uint-makes 𝓤 H A W w64) n (vint w64 n ∷ []) (refl, fits) $ fjoin ! $ nothing ! $ join ! $ nothing ! $ move ! (1 ∷ 0 ∷ []) $ done !
+  asks-start n fits = qed W [] ∵ nothing ! $ owned ! usize (Is usize) (uint-makes 𝓤 H A W w64) n (vint w64 n ∷ [])
+      (refl, fits) $ fjoin ! $ nothing ! $ join ! $ nothing ! $ move ! (1 ∷ 0 ∷ []) $ done !
 
   abbrev Started : ℕ → U64Answer → Type 0
   Started n r = u64Case r ≡ soFar n []
@@ -139,7 +142,8 @@ module _ {M : Type 1} (𝓤 : URA M) (H : Heap 𝓤) (A : Atoms 𝓤) (W : Given
   abbrev to-with-box : U64Answer → Val → TileZBox → WithBox 𝓤 H A mem run .Ghost
   to-with-box a u d = ((tt, tt, tt, (a, (d, tt)), (u ∷ [], (mach d ∷ [], tt))), tt)
 
-  asks-with-box : (a : U64Answer) (u : Val) (d : TileZBox) → Is S.the-row a (u ∷ []) → Is T.the-row d (mach d ∷ []) → u64Case a .value + lengthOf d .value < 2 ^ 64 → ent 𝓤 (emp 𝓤) (WithBox 𝓤 H A mem run .pre (to-with-box a u d))
+  asks-with-box : (a : U64Answer) (u : Val) (d : TileZBox) → Is S.the-row a (u ∷ []) → Is T.the-row d (mach d ∷ [])
+      → u64Case a .value + lengthOf d .value < 2 ^ 64 → ent 𝓤 (emp 𝓤) (WithBox 𝓤 H A mem run .pre (to-with-box a u d))
   asks-with-box a u d is js room =
       qed W [] ∵ says ! room $ nothing ! $ owned ! T.the-row (Is T.the-row) (LL.makes T.the-type T′.the-plain 𝓤 H A) d (mach d ∷ []) js $ fjoin ! $
       owned ! S.the-row (Is S.the-row) (EL.makes S.the-type S′.the-plain 𝓤 H A) a (u ∷ []) is $ fjoin ! $ nothing ! $ done !
@@ -261,8 +265,10 @@ module _ {M : Type 1} (𝓤 : URA M) (H : Heap 𝓤) (A : Atoms 𝓤) (W : Given
           elem-back ! T.the-row q′ ys (s .i) noBox (mach d ∷ []) b o l $
           -- _3 = with_box(_3, _8)
           use0 W (raw (WithBox 𝓤 H A mem run .pre (to-with-box (s .a) (s .u) d))) (asks-with-box (s .a) (s .u) d (s .is) js (room s l)) $
-          calls-at ! (fmOf 𝓤 H (W .laws) 𝓣) (WithBox 𝓤 H A mem run) known-with-box (to-with-box (s .a) (s .u) d) (and-then ! (load ! (from ! (stop !)) (look ! 14 refl)) (and-then ! (load ! (from ! (stop !)) (look ! 4 refl)) (no-more !))) (λ u.
-          use1 W (later (some (λ (r : U64Answer). (‵ ftrue ⊛ ‵ (S.the-row .own r (u ∷ []))) ⊛ raw (ensured 𝓤 H A with-box.ended (with-box.clauses 𝓤 H A mem run) tt (s .a, (d, tt)) tt r)))) (id⊢ 𝓤 _) $ await ! tt $ pick ! (λ r.
+          calls-at ! (fmOf 𝓤 H (W .laws) 𝓣) (WithBox 𝓤 H A mem run) known-with-box (to-with-box (s .a) (s .u) d)
+          (and-then ! (load ! (from ! (stop !)) (look ! 14 refl)) (and-then ! (load ! (from ! (stop !)) (look ! 4 refl)) (no-more !))) (λ u.
+          use1 W (later (some (λ (r : U64Answer). (‵ ftrue ⊛ ‵ (S.the-row .own r (u ∷ []))) ⊛ raw
+          (ensured 𝓤 H A with-box.ended (with-box.clauses 𝓤 H A mem run) tt (s .a, (d, tt)) tt r)))) (id⊢ 𝓤 _) $ await ! tt $ pick ! (λ r.
           split ! $ move ! (1 ∷ []) $ use1 W (raw (fact 𝓤 (Added (s .a) d r))) (with-box-said (s .a) d r) $ heard ! (Added (s .a) d r) (λ e. split ! $ drop ! $
           facts ! S.the-row (Is S.the-row) (shows 𝓤 H A S.the-row) r (u ∷ []) (λ is.
           land ! (from ! (stop !)) (store ! 13 refl (typed-answer r u is)) $
@@ -286,7 +292,8 @@ module _ {M : Type 1} (𝓤 : URA M) (H : Heap 𝓤) (A : Atoms 𝓤) (W : Given
           -- _3 = start(_2)
           use0 W (raw (Start 𝓤 H A mem run .pre (to-start n))) (asks-start n (g .0 .1 .0)) $
           calls-at ! (fmOf 𝓤 H (W .laws) 𝓣) (Start 𝓤 H A mem run) known-start (to-start n) (and-then ! (load ! (from ! (stop !)) (look ! 15 refl)) (no-more !)) (λ u.
-          use1 W (later (some (λ (r : U64Answer). (‵ ftrue ⊛ ‵ (S.the-row .own r (u ∷ []))) ⊛ raw (ensured 𝓤 H A start.ended (start.clauses 𝓤 H A mem run) tt (n, tt) tt r)))) (id⊢ 𝓤 _) $ await ! tt $ pick ! (λ r.
+          use1 W (later (some (λ (r : U64Answer). (‵ ftrue ⊛ ‵ (S.the-row .own r (u ∷ []))) ⊛ raw
+          (ensured 𝓤 H A start.ended (start.clauses 𝓤 H A mem run) tt (n, tt) tt r)))) (id⊢ 𝓤 _) $ await ! tt $ pick ! (λ r.
           split ! $ move ! (1 ∷ []) $ use1 W (raw (fact 𝓤 (Started n r))) (start-said n r) $ heard ! (Started n r) (λ e. split ! $ drop ! $
           facts ! S.the-row (Is S.the-row) (shows 𝓤 H A S.the-row) r (u ∷ []) (λ is.
           land ! (from ! (stop !)) (init ! 12 refl (typed-answer r u is)) $
@@ -311,7 +318,8 @@ module _ {M : Type 1} (𝓤 : URA M) (H : Heap 𝓤) (A : Atoms 𝓤) (W : Given
       (λ κs qs bounds a gh are. via 𝓤 _ (fst∗ 𝓤 _ (emp 𝓤)) (enters (κs .0) (qs .0) (a .0 .ptr .0) (a .0 .ptr .1) (a .0 .name) (a .0 .now) (are .0)))
 
   this-meets : Meets 𝓤 H A this.signature (WpFn 𝓤 H C Λ code.function) (this.spec 𝓤 H A mem run)
-  this-meets = walk-meets 𝓤 H A this.ended stayed W (goes-none-slice 𝓤 H A W 1 (0 ∷ []) tt (plain (λ _. T.the-row)) yes, tt) (this.clauses 𝓤 H A mem run) (WpFn 𝓤 H C Λ code.function) (WpFn-mono 𝓤 H (W .laws) 𝓣 code.function) this-walks
+  this-meets = walk-meets 𝓤 H A this.ended stayed W (goes-none-slice 𝓤 H A W 1 (0 ∷ []) tt (plain (λ _. T.the-row)) yes, tt) (this.clauses 𝓤 H A mem run)
+      (WpFn 𝓤 H C Λ code.function) (WpFn-mono 𝓤 H (W .laws) 𝓣 code.function) this-walks
 
 pub boxes-length-spec : {M : Type 1} → stated.statement M
 unfolding code.routine tablesOf

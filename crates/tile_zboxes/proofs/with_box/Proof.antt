@@ -24,10 +24,14 @@ with-refusal-requires : tie.Need-with-refusal-requires
 with-refusal-requires c κs = search needs
 
 returns : tie.Need-returns
-returns c = c .with-length .ensures ∙ ap (λ (a : Answer ℕ). u64Case (c .before .before .before .before .before .args .sum) plus a) (sym (ap u64Case (c .before .before .length2 .given .1)) ∙ c .before .before .before .before .length .ensures)
+returns c = c .with-length .ensures
+    ∙ ap (λ (a : Answer ℕ). u64Case (c .before .before .before .before .before .args .sum) plus a)
+    (sym (ap u64Case (c .before .before .length2 .given .1)) ∙ c .before .before .before .before .length .ensures)
 
 returns-2 : tie.Need-returns-2
-returns-2 c = c .with-refusal .ensures ∙ ap (λ (a : Answer ℕ). u64Case (c .before .before .before .before .before .args .sum) plus a) (sym (ap u64Case (c .before .before .why .given .1)) ∙ c .before .before .before .before .length .ensures)
+returns-2 c = c .with-refusal .ensures
+    ∙ ap (λ (a : Answer ℕ). u64Case (c .before .before .before .before .before .args .sum) plus a)
+    (sym (ap u64Case (c .before .before .why .given .1)) ∙ c .before .before .before .before .length .ensures)
 
 pub with-box-spec : {M : Type 1} → statement M
 with-box-spec =

@@ -26,7 +26,9 @@ add-wide-2 c = omega (arith, rows-fit (c .before .before .before .pre), side-sma
 wide-requires-2 : tie.Need-wide-requires-2
 wide-requires-2 c κs = search needs
 
-fits : (c : tie.After-wide2) → (c .before .before .before .before .args .self .maxx - c .before .before .before .before .args .self .minx + 1) * (c .before .before .before .before .args .self .maxy - c .before .before .before .before .args .self .miny + 1) < 2 ^ 61
+fits : (c : tie.After-wide2)
+    → (c .before .before .before .before .args .self .maxx - c .before .before .before .before .args .self .minx + 1) *
+    (c .before .before .before .before .args .self .maxy - c .before .before .before .before .args .self .miny + 1) < 2 ^ 61
 unfolding boxLength
 fits c = length-small (c .before .before .before .before .pre)
 

@@ -16,7 +16,8 @@ in-run-requires c κs = search needs
 
 returns-2 : tie.Need-returns-2
 unfolding inBox
-returns-2 c = let a = c .before .before .before .before .args in rw (eq-eqb (a .z) (a .self .zoom) (omega (arith, c .before .before .if1 .left)), sym (c .before .in-run .ensures) ∙ not-true _ (c .if2 .taken))
+returns-2 c = let a = c .before .before .before .before .args in
+    rw (eq-eqb (a .z) (a .self .zoom) (omega (arith, c .before .before .if1 .left)), sym (c .before .in-run .ensures) ∙ not-true _ (c .if2 .taken))
 
 in-run-requires-2 : tie.Need-in-run-requires-2
 in-run-requires-2 c κs = search needs

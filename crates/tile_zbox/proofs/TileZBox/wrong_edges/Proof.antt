@@ -29,7 +29,8 @@ returns-2 : tie.Need-returns-2
 unfolding wrongEdges
 returns-2 c =
     let a = c .before .before .before .before .args .self in
-    rw (sym (ap (wrongRun (a .minx) (a .maxx)) (side (c .before .before .before))) ∙ (sym (c .before .before .wrong-run .ensures) ∙ c .before .if1 .left)) (c .wrong-run2 .ensures ∙ ap (wrongRun (a .miny) (a .maxy)) (side (c .before .before .before)))
+    rw (sym (ap (wrongRun (a .minx) (a .maxx)) (side (c .before .before .before))) ∙ (sym (c .before .before .wrong-run .ensures) ∙ c .before .if1 .left))
+    (c .wrong-run2 .ensures ∙ ap (wrongRun (a .miny) (a .maxy)) (side (c .before .before .before)))
 
 pub wrong-edges-spec : {M : Type 1} → statement M
 wrong-edges-spec =
