@@ -57,7 +57,8 @@ fn main() {
 
 fn take_in(chunk: &[u8], feeding: Feeding, line: &mut [u8; KEPT], out: &mut [u8]) -> Line
     requires { ⌜ (longest < length (now out)) × (length (now line) ≡ suc maxLine) ⌝ }
-    ensures { λ r. ⌜ (length (now (out .exit)) ≡ length (now (out .entry))) × (length (now (line .exit)) ≡ suc maxLine) × Keeps (now (chunk .entry)) (take (feeding .len) (now (line .entry))) (now (line .exit)) r ⌝ }
+    ensures { λ r. ⌜ (length (now (out .exit)) ≡ length (now (out .entry))) × (length (now (line .exit)) ≡ suc maxLine)
+        × Keeps (now (chunk .entry)) (take (feeding .len) (now (line .entry))) (now (line .exit)) r ⌝ }
 {
     let mut so_far = form_stream::next_chunk(feeding);
     while so_far.at < chunk.len() {

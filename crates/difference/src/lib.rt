@@ -34,7 +34,8 @@ pub fn left(kept: &[u64], gone: &[u64], out: &mut [u64]) -> usize
 // A tile is kept, dropped, or handed to its four children. Half its run is `low` long.
 fn tile(k: u64, low: u64, gone: &[u64], out: &mut [u64], at: Mark) -> Mark
     requires { ⌜ AtTile (now gone) k low (at .next) (at .count) ⌝ }
-    ensures { λ r. ⌜ Walked (leftAt (now (gone .entry)) k) (now (gone .entry)) (k + low) (at .count) (now (out .entry)) (now (out .exit)) (r .next) (r .count) ⌝ }
+    ensures { λ r. ⌜ Walked (leftAt (now (gone .entry)) k) (now (gone .entry)) (k + low) (at .count) (now (out .entry)) (now (out .exit))
+        (r .next) (r .count) ⌝ }
 {
     let here = Mark {
         next: passed(gone, at.next, k - low),
@@ -55,7 +56,8 @@ fn tile(k: u64, low: u64, gone: &[u64], out: &mut [u64], at: Mark) -> Mark
 // of `tile`, which passes two slices through memory.
 fn four(k: u64, quarter: u64, gone: &[u64], out: &mut [u64], at: Mark) -> Mark
     requires { ⌜ AtFour (now gone) k quarter (at .next) (at .count) ⌝ }
-    ensures { λ r. ⌜ Walked (fourAt (now (gone .entry)) k) (now (gone .entry)) (k + 4 * quarter) (at .count) (now (out .entry)) (now (out .exit)) (r .next) (r .count) ⌝ }
+    ensures { λ r. ⌜ Walked (fourAt (now (gone .entry)) k) (now (gone .entry)) (k + 4 * quarter) (at .count) (now (out .entry))
+        (now (out .exit)) (r .next) (r .count) ⌝ }
 {
     let mut here = at;
     let mut i = 0;

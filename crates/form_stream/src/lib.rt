@@ -31,7 +31,8 @@ pub struct Fed {
 // A chunk of the input, from where it is taken in to, behind the line so far: what is to be printed goes to `out`, as far as there is
 // room for it. Until the chunk is used up, `feeding` is what the call before handed back.
 pub fn feed(chunk: &[u8], feeding: Feeding, line: &mut [u8; KEPT], out: &mut [u8]) -> Fed
-    ensures { λ r. ⌜ scanOf r (now (line .exit)) (now (out .exit)) ≡ feedOf (now (chunk .entry)) (feeding .at) (feeding .len) (now (line .entry)) (now (out .entry)) ⌝ }
+    ensures { λ r. ⌜ scanOf r (now (line .exit)) (now (out .exit))
+        ≡ feedOf (now (chunk .entry)) (feeding .at) (feeding .len) (now (line .entry)) (now (out .entry)) ⌝ }
 {
     feed_lines(chunk, feeding.at, line, least(feeding.len, KEPT), out)
 }
@@ -71,7 +72,8 @@ fn front(line: &[u8], n: usize) -> &[u8]
 
 fn feed_lines(chunk: &[u8], from: usize, line: &mut [u8], len: usize, out: &mut [u8]) -> Fed
     requires { ⌜ (length (now line) ≡ suc maxLine) × (len ≤ length (now line)) ⌝ }
-    ensures { λ r. ⌜ scanOf r (now (line .exit)) (now (out .exit)) ≡ scan (drop from (now (chunk .entry))) (scanAt from len 0 (now (line .entry)) (now (out .entry))) ⌝ }
+    ensures { λ r. ⌜ scanOf r (now (line .exit)) (now (out .exit))
+        ≡ scan (drop from (now (chunk .entry))) (scanAt from len 0 (now (line .entry)) (now (out .entry))) ⌝ }
 {
     let mut held = len;
     let mut filled = 0;

@@ -129,7 +129,8 @@ fn fill(wrap: bool, x: u32, y: u32, z: u8, end: u32, out: &mut [u64])
     requires { ⌜ OnMap x y z ⌝ }
     requires { ⌜ end ≡ 2 ^ z ⌝ }
     requires { ⌜ length (gather (nearOf wrap x y z) (orderOf wrap)) ≤ length (now out) ⌝ }
-    ensures { λ _. ⌜ now (out .exit) ≡ entriesOf (gather (nearOf wrap x y z) (orderOf wrap)) ++ drop (length (gather (nearOf wrap x y z) (orderOf wrap))) (now (out .entry)) ⌝ }
+    ensures { λ _. ⌜ now (out .exit) ≡ entriesOf (gather (nearOf wrap x y z) (orderOf wrap))
+        ++ drop (length (gather (nearOf wrap x y z) (orderOf wrap))) (now (out .entry)) ⌝ }
 {
     let mut n = 0;
     let mut k = 0;

@@ -14,7 +14,8 @@ ghost use denote.Ref.{ptr};
 ghost use Rattle.constants.specs.Limits.{maxZoom};
 ghost use Rattle.errors.specs.Cases.{checkNumber, left};
 ghost use Rattle.tile.specs.OnMap.{tileCase};
-ghost use Rattle.quadkey.specs.Key.{digitAt, keyFrom, keyWritten, isDigit, allDigits, keyRefusal, isKey, keyTile, flipDigit, flipWritten, ancestorRefusal, sharedLength, sharedRefusal, leadingPart};
+ghost use Rattle.quadkey.specs.Key.{digitAt, keyFrom, keyWritten, isDigit, allDigits, keyRefusal, isKey, keyTile, flipDigit};
+ghost use Rattle.quadkey.specs.Key.{flipWritten, ancestorRefusal, sharedLength, sharedRefusal, leadingPart};
 
 pub fn is_quadkey_byte(b: u8) -> bool
     ensures { λ r. ⌜ r ≡ isDigit b ⌝ }
@@ -206,7 +207,8 @@ fn number(r: Check) -> u8
 
 // The key of the deepest ancestor that two keys share: a part of the first key. Empty where it is refused.
 pub fn shared_key<'a, 'b>(a: &'a [u8], b: &'b [u8]) -> &'a [u8]
-    ensures { λ r. ⌜ (ptr r, now r) ≡ leadingPart (a .entry) (sharedRefusal (now (a .entry)) (now (b .entry))) (sharedLength (now (a .entry)) (now (b .entry))) ⌝ }
+    ensures { λ r. ⌜ (ptr r, now r) ≡ leadingPart (a .entry) (sharedRefusal (now (a .entry)) (now (b .entry)))
+        (sharedLength (now (a .entry)) (now (b .entry))) ⌝ }
 {
     match shared_check(a, b) {
         Check::Fine => {

@@ -10,7 +10,9 @@ ghost use mathlib.Core.Path.{_≡_};
 ghost use Prim.Native.Nat.{_+_, _≤_};
 ghost use Rattle.constants.specs.Limits.{maxZoom};
 ghost use Rattle.errors.specs.Cases.{checkNumber, boolCase, u32Case, u64Case};
-ghost use Rattle.tile_zbox.specs.Box.{IsBox, wrongRun, wrongEdges, boxRefusal, boxCase, extentCase, newOf, fromTileOf, inRun, inBox, containsPlaced, containsOf, flipped, flipOf, zoomedBy, zoomInOf, zoomDepthOf, boxLength, lengthOf, dxOf, dyOf, dxdyOf, dimensionsOf};
+ghost use Rattle.tile_zbox.specs.Box.{IsBox, wrongRun, wrongEdges, boxRefusal, boxCase, extentCase, newOf, fromTileOf, inRun};
+ghost use Rattle.tile_zbox.specs.Box.{inBox, containsPlaced, containsOf, flipped, flipOf, zoomedBy, zoomInOf, zoomDepthOf};
+ghost use Rattle.tile_zbox.specs.Box.{boxLength, lengthOf, dxOf, dyOf, dxdyOf, dimensionsOf};
 
 pub struct TileZBox {
     pub zoom: u8,

@@ -17,7 +17,8 @@ ghost use Rattle.bits.specs.Tests.{anyOf};
 ghost use Rattle.constants.specs.Limits.{maxZoom};
 ghost use Rattle.errors.specs.Cases.{checkNumber, u64Case, left};
 ghost use Rattle.tile_zbox.specs.Box.{wrongEdges};
-ghost use Rattle.tile_zbox_numbers.specs.Boxes.{deep, sumLengths, boxFrom, boxesOf, numbersRefusal, numbersLengthOf, numbers, flippedNumbers, boxesFlipOf};
+ghost use Rattle.tile_zbox_numbers.specs.Boxes.{deep, sumLengths, boxFrom, boxesOf, numbersRefusal, numbersLengthOf, numbers};
+ghost use Rattle.tile_zbox_numbers.specs.Boxes.{flippedNumbers, boxesFlipOf};
 
 // The sum of the boxes' lengths, overlaps counted twice.
 pub fn boxes_length(boxes: &[u32]) -> U64Answer

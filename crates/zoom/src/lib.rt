@@ -13,7 +13,9 @@ ghost use lib.ListN.{length, drop};
 ghost use lib.Bits.{bitAnd};
 ghost use Rattle.errors.specs.Cases.{checkNumber, u32Case, left};
 ghost use Rattle.zoom.specs.Bits.{hasBit, those, setOf, between};
-ghost use Rattle.zoom.specs.Zooms.{lastZoom, turnBit, maxXY, downFrom, zoomsOf, zoomsOfRev, anyDeeper, listRefusal, setOfZooms, zvecSet, zvecSetRev, zoomBit, zoomBitRev, andZoom, rangeOf, rangeSet, zoomSetCase, inRun, runStarts, runEnds, leftTwo, rangesOf};
+ghost use Rattle.zoom.specs.Zooms.{lastZoom, turnBit, maxXY, downFrom, zoomsOf, zoomsOfRev, anyDeeper, listRefusal, setOfZooms};
+ghost use Rattle.zoom.specs.Zooms.{zvecSet, zvecSetRev, zoomBit, zoomBitRev, andZoom, rangeOf, rangeSet, zoomSetCase, inRun};
+ghost use Rattle.zoom.specs.Zooms.{runStarts, runEnds, leftTwo, rangesOf};
 ghost use Rattle.errors.specs.Answer.{written};
 
 // The deepest zoom of a set or a list. The map's own limit is another one.
