@@ -77,7 +77,8 @@ abbrev pub Plates : Type 0
 Plates = (p : Plate) → table p .gives ≡ table p .says
 
 pub plates : Plates
-unfolding tileRefusal maxZoom maxEntries keyFrom idOf levelStart parentRefusal gather boxRefusal wrongEdges boxLength hasBit those setOf listed anyDeeper firstRun lastRun inRun runStarts runEnds allDigits keyRefusal spelled
+unfolding tileRefusal maxZoom maxEntries keyFrom idOf levelStart parentRefusal gather boxRefusal wrongEdges
+    boxLength hasBit those setOf listed anyDeeper firstRun lastRun inRun runStarts runEnds allDigits keyRefusal spelled
 plates key-213 = refl
 plates id-2659 = refl
 plates rmid-64 = refl

@@ -33,12 +33,16 @@ enum-known-why c = search needs
 
 returns-3 : tie.Need-returns-3
 unfolding maxZoom
-returns-3 c = let d : c .before .before .before .before .before .before .before .before .args .self .zoom + c .before .before .before .before .before .before .before .before .args .depth ≤ maxZoom = omega arith in rw (le-ltb _ _ d, (check-fine (c .before .enum-told .given .1) (c .before .before .before .check .ensures)), c .zoomed .ensures)
+returns-3 c =
+    let a = c .before .before .before .before .before .before .before .before .args in
+    let d : a .self .zoom + a .depth ≤ maxZoom = omega arith in
+    rw (le-ltb _ _ d, (check-fine (c .before .enum-told .given .1) (c .before .before .before .check .ensures)), c .zoomed .ensures)
 
 returns-4 : tie.Need-returns-4
 unfolding maxZoom
 returns-4 c =
-    let d : c .before .before .before .before .before .before .before .before .args .self .zoom + c .before .before .before .before .before .before .before .before .args .depth ≤ maxZoom = omega arith in
+    let a = c .before .before .before .before .before .before .before .before .args in
+    let d : a .self .zoom + a .depth ≤ maxZoom = omega arith in
     rw (le-ltb _ _ d) (refused-answer (c .before .why .given .0 .0) _ _ (sym (check-refused (c .before .why .given .1) (c .before .before .before .check .ensures))))
 
 pub zoom-depth-spec : {M : Type 1} → statement M
