@@ -17,8 +17,9 @@ static void expect(int holds, const char *what)
 
 static void tiles(void)
 {
-    uint32_t x = 9, y = 9;
+    uint32_t x = 9, y = 9, version = 9;
     uint8_t z = 9, order = 9;
+    EXPECT(nori_version(&version) == 0 && version == NORI_VERSION);
     EXPECT(nori_parent(3, 5, 3, 0, &x, &y, &z) == 0 && x == 1 && y == 2 && z == 2);
     EXPECT(nori_parent(3, 5, 3, 3, &x, &y, &z) == NORI_NO_RELATIVE && x == 0 && y == 0 && z == 0);
     EXPECT(nori_check(8, 0, 3) == NORI_OFF_MAP);

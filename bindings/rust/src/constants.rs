@@ -1,6 +1,23 @@
 //! The limits of the library.
 
+use crate::answer::{never_refused, value};
 use crate::ffi;
+
+/// The version of this crate and of the archive that it is built with: 10,000 for each major number,
+/// 100 for each minor one and 1 for each patch. Building it with another archive fails.
+pub const VERSION: u32 = ffi::VERSION;
+
+/// The version of the archive that is linked, as it tells it.
+///
+/// # Examples
+/// ```
+/// use noripliers::constants::{VERSION, version};
+///
+/// assert_eq!(version(), VERSION);
+/// ```
+pub fn version() -> u32 {
+    never_refused(value(|version| ffi::nori_version(version)))
+}
 
 /// The deepest zoom of a tile, where utiles has 30.
 ///

@@ -21,6 +21,7 @@ mod sibling_relationship;
 mod tally;
 mod tile;
 mod tile_zbox;
+mod version;
 mod zoom;
 
 use std::collections::{BTreeMap, BTreeSet};
@@ -32,6 +33,7 @@ use tally::Tally;
 #[test]
 fn every_call_does_what_the_header_says() {
     let mut tally = Tally::default();
+    version::run(&mut tally);
     sibling_relationship::run(&mut tally);
     tile::run(&mut tally);
     quadkey::run(&mut tally);
