@@ -8,10 +8,11 @@ use native.Mathlib.Decide.{decLe, decLt}
 use native.Mathlib.Omega.{arith}
 use lib.ListN.{take}
 use Rattle.constants.specs.Limits.{maxZoom}
-use Rattle.quadtree.specs.Laws.{quad-ancestor, quad-inj}
+use Rattle.quadtree.specs.Laws.{morton-ancestor, morton-inj}
 use Rattle.quadtree.specs.Lists.{TileNumbers}
-use Rattle.quadtree.specs.Numbers.{OfMap, quadOf, placeOf, placeTile}
-use Rattle.quadtree.specs.Places.{holds-quad, valid-tile, map-tile}
+use Rattle.quadtree.specs.Numbers.{OfMap, mortonOf, locationOf, locationTile}
+use Rattle.quadtree.specs.Locations.{holds-morton, valid-tile, map-tile}
+use Rattle.quadtree.specs.declared.Key.the-variants.{Location}
 use Rattle.settle.specs.Settle.{Settles}
 use Rattle.tile.specs.declared.Tile.{Tile}
 use Rattle.tile_list.specs.Laws.{named-within}
@@ -31,7 +32,7 @@ one-holder {S} {a} {b} {t} apart p q h k = pick (decLe (a .z) (b .z))
     pick (yes l) = apart a b p q (holds-both h k l)
     pick (no l) = sym (apart b a q p (holds-both k h (omega arith)))
 
--- of the ancestors of the tile of quad q and zoom z, those at `steps` and more are not the tile of quad g
+-- of the ancestors of the tile of Morton code q and zoom z, those at `steps` and more are not the tile of Morton code g
 pub record Tested (q g z steps : ℕ) : Type 0 where
   pub few : steps ≤ z
   pub none : (n : ℕ) → steps ≤ n → n < z → q / 4 ^ (n + 1) ≡ g → ⊥
@@ -50,9 +51,9 @@ tested-more {q} {g} {z} {steps} t h e = record { few = omega (arith, t .few); no
         pick (no l) f = t .none n (omega arith) b f
 
 -- h is the top that holds t
-module _ (m : ℕ) {list tops : List ℕ} (T : Tops list tops) {h t : Tile} (top : named placeTile tops h ≡ true) (held : Holds h t) where
+module _ (m : ℕ) {list tops : List ℕ} (T : Tops list tops) {h t : Tile} (top : named locationTile tops h ≡ true) (held : Holds h t) where
   abbrev S : Tile → Bool
-  S = named placeTile list
+  S = named locationTile list
 
   far-goes : h .z + m < t .z → uncovered m S t ≡ true → ⊥
   far-goes l e = uncovered-of m S t e .1 (h .z) (omega arith) (sym (ap S (holder-is-ancestor held)) ∙ T .of h top)
@@ -67,26 +68,26 @@ module _ (m : ℕ) {list tops : List ℕ} (T : Tops list tops) {h t : Tile} (top
           omega (arith, r .2 .above)
 
   -- h is the ancestor at n: it is of zoom z - 1 - n
-  ancestor-zoom : (n : ℕ) → OfMap h → OfMap t → n < t .z → quadOf t / 4 ^ (n + 1) ≡ quadOf h → h .z + (n + 1) ≡ t .z
+  ancestor-zoom : (n : ℕ) → OfMap h → OfMap t → n < t .z → mortonOf t / 4 ^ (n + 1) ≡ mortonOf h → h .z + (n + 1) ≡ t .z
   ancestor-zoom n o u l e =
       let s = t .z - (n + 1) in
       let d : t .z - s ≡ n + 1 = omega arith in
-      let q : quadOf (ancestor t s) ≡ quadOf h = quad-ancestor t s (omega arith) ∙ rw d e in
+      let q : mortonOf (ancestor t s) ≡ mortonOf h = morton-ancestor t s (omega arith) ∙ rw d e in
       let v = valid-holder (ancestor-holds t s (omega arith)) (valid-tile t u) in
-      let z = ap (λ (x : Tile). x .z) (quad-inj (ancestor t s) h (map-tile (ancestor t s) v) o q) in
+      let z = ap (λ (x : Tile). x .z) (morton-inj (ancestor t s) h (map-tile (ancestor t s) v) o q) in
       omega arith
 
-  ancestor-quad : (n : ℕ) → h .z + (n + 1) ≡ t .z → quadOf t / 4 ^ (n + 1) ≡ quadOf h
-  ancestor-quad n e = let d : t .z - h .z ≡ n + 1 = omega arith in rw d at (holds-quad held)
+  ancestor-morton : (n : ℕ) → h .z + (n + 1) ≡ t .z → mortonOf t / 4 ^ (n + 1) ≡ mortonOf h
+  ancestor-morton n e = let d : t .z - h .z ≡ n + 1 = omega arith in rw d at (holds-morton held)
 
-  pub found-goes : (n : ℕ) → OfMap h → OfMap t → m ≤ n → n < t .z → quadOf t / 4 ^ (n + 1) ≡ quadOf h → uncovered m S t ≡ true → ⊥
+  pub found-goes : (n : ℕ) → OfMap h → OfMap t → m ≤ n → n < t .z → mortonOf t / 4 ^ (n + 1) ≡ mortonOf h → uncovered m S t ≡ true → ⊥
   found-goes n o u k l e = far-goes (omega (arith, ancestor-zoom n o u l e))
 
-  pub tested-stays : (steps : ℕ) → S t ≡ true → steps ≤ m → Tested (quadOf t) (quadOf h) (t .z) steps → uncovered m S t ≡ true
+  pub tested-stays : (steps : ℕ) → S t ≡ true → steps ≤ m → Tested (mortonOf t) (mortonOf h) (t .z) steps → uncovered m S t ≡ true
   tested-stays steps e l a = near-stays e (near (decLt (h .z + m) (t .z)))
     where
       near : Dec (h .z + m < t .z) → t .z ≤ h .z + m
-      near (yes k) = absurd (a .none (t .z - h .z - 1) (omega arith) (omega arith) (ancestor-quad (t .z - h .z - 1) (omega arith)))
+      near (yes k) = absurd (a .none (t .z - h .z - 1) (omega arith) (omega arith) (ancestor-morton (t .z - h .z - 1) (omega arith)))
       near (no k) = omega arith
 
 -- where no zoom is above m, nothing can be joined
@@ -94,11 +95,11 @@ built-listed : {m : ℕ} {S : Tile → Bool} → Within maxZoom S → maxZoom �
 built-listed w d (listed e) = e
 built-listed {S = S} w d (joined {p = p} l a b c e) = let v = w (child p 0 0) (built-listed w d a) in absurd (omega (arith, v .zoom))
 
-pub settled-tops : {m r : ℕ} {list after : List ℕ} → maxZoom ≤ m → TileNumbers placeOf list → Settles m list after r → Tops list (take r after)
+pub settled-tops : {m r : ℕ} {list after : List ℕ} → maxZoom ≤ m → TileNumbers locationOf list → Settles m list after r → Tops list (take r after)
 settled-tops {list = list} d f s = record {
   rising = s .rising;
-  numbers = s .places;
-  of = λ t e. built-listed (named-within true list f) d (s .simplest .built t e);
+  numbers = s .locations;
+  of = λ t e. built-listed (named-within Location list f) d (s .simplest .built t e);
   covers = s .simplest .covers;
   apart = s .simplest .apart;
 }

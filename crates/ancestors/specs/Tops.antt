@@ -7,21 +7,21 @@ use native.Mathlib.Decide.{decLt}
 use native.Mathlib.Omega.{arith}
 use lib.ListN.{length, take}
 use Rattle.quadtree.specs.Lists.{TileNumbers}
-use Rattle.quadtree.specs.Numbers.{quadOf, quadTile, placeOf, placeTile}
-use Rattle.quadtree.specs.Places.{endOf, tiles}
+use Rattle.quadtree.specs.Numbers.{mortonOf, mortonTile, locationOf, locationTile}
+use Rattle.quadtree.specs.Locations.{endOf, tiles}
 use Rattle.sort.specs.Sort.{Rising}
 use Rattle.tile.specs.declared.Tile.{Tile}
 use Rattle.tile_list.specs.List.{named}
 use Rattle.tile_set.specs.Merged.{Covers, Apart}
 use Rattle.tile_set.specs.Set.{uncovered}
 
--- `tops` are the places, in order, of the tiles of `before` that have no ancestor there
+-- `tops` are the locations, in order, of the tiles of `before` that have no ancestor there
 pub record Tops (before tops : List ℕ) : Type 0 where
   pub rising : Rising tops
-  pub numbers : TileNumbers placeOf tops
-  pub of : (t : Tile) → named placeTile tops t ≡ true → named placeTile before t ≡ true
-  pub covers : Covers (named placeTile tops) (named placeTile before)
-  pub apart : Apart (named placeTile tops)
+  pub numbers : TileNumbers locationOf tops
+  pub of : (t : Tile) → named locationTile tops t ≡ true → named locationTile before t ≡ true
+  pub covers : Covers (named locationTile tops) (named locationTile before)
+  pub apart : Apart (named locationTile tops)
 
 -- the run of a top from `from` on ends behind k
 pub record Ahead (tops : List ℕ) (from k : ℕ) : Type 0 where
@@ -54,8 +54,8 @@ module _ (tops : List ℕ) (top k : ℕ) (near : endOf (tiles tops top) ≤ k) w
       pick (yes l) = f j a l
       pick (no l) = let e : j ≡ top = omega arith in rw e near
 
--- the first r numbers of `after` are the quads of the tiles that stay of `before`
+-- the first r numbers of `after` are the Morton codes of the tiles that stay of `before`
 pub record Uncovers (m : ℕ) (before after : List ℕ) (r : ℕ) : Type 0 where
   pub within : r ≤ length after
-  pub numbers : TileNumbers quadOf (take r after)
-  pub set : named quadTile (take r after) ≡ uncovered m (named placeTile before)
+  pub numbers : TileNumbers mortonOf (take r after)
+  pub set : named mortonTile (take r after) ≡ uncovered m (named locationTile before)

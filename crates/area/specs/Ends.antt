@@ -12,7 +12,7 @@ use Rattle.area.specs.Grounds.{listed-covers, largest-entries, simplifie
 use Rattle.area.specs.Left.{difference-covers, difference-tops}
 use Rattle.area.specs.Pairs.{union-covers, common-covers, common-tops}
 use Rattle.area.specs.Settled.{settled-tops}
-use Rattle.area.specs.Work.{workOf, joinOf, joinEntries, placesOf, pairTests, Ready, Parted, Remains, Made, madeSet, leftSet}
+use Rattle.area.specs.Work.{workOf, joinOf, joinEntries, locationsOf, pairTests, Ready, Parted, Remains, Made, madeSet, leftSet}
 use Rattle.area.specs.declared.Work.{Work}
 use Rattle.bits.specs.Tests.{and-parts, allOf, any-append}
 use Rattle.common.specs.Common.{shared}
@@ -29,9 +29,10 @@ use Rattle.errors.specs.declared.Refusal.the-variants.{Memory}
 use Rattle.ground.specs.Largest.{Full, Cover}
 use Rattle.ids.specs.Entry.{isEntry}
 use Rattle.quadtree.specs.Lists.{entryKey, TileNumbers}
-use Rattle.quadtree.specs.Numbers.{placeOf, placeTile}
-use Rattle.quadtree.specs.Places.{tiles}
-use Rattle.settled.specs.Laws.{places-named}
+use Rattle.quadtree.specs.Numbers.{locationOf, locationTile}
+use Rattle.quadtree.specs.Locations.{tiles}
+use Rattle.quadtree.specs.declared.Key.the-variants.{Location}
+use Rattle.settled.specs.Laws.{locations-named}
 use Rattle.settled.specs.Settled.{isSettled}
 use Rattle.sort.specs.Laws.{sort-length}
 use Rattle.tile.specs.declared.Tile.{Tile}
@@ -51,12 +52,12 @@ named-append : (tile : ℕ → Tile) (a b : List ℕ) (t : Tile) → named tile 
 unfolding named
 named-append tile a b t = any-append (λ n. same (tile n) t) a b
 
-places-cover : (list : List ℕ) → allOf isEntry list ≡ true → Cover maxZoom (groundOf list) (λ t. named placeTile (placesOf list) t ≡ true)
-places-cover list e = rw (places-named list e) (listed-covers list e)
+locations-cover : (list : List ℕ) → allOf isEntry list ≡ true → Cover maxZoom (groundOf list) (λ t. named locationTile (locationsOf list) t ≡ true)
+locations-cover list e = rw (locations-named list e) (listed-covers list e)
 
-places-tops : (list : List ℕ) → allOf isEntry list ≡ true → isSettled list ≡ true
-    → (t : Tile) → named placeTile (placesOf list) t ≡ true → 0 < t .z → Full maxZoom (groundOf list) (parentTile t) → ⊥
-places-tops list e s = rw (places-named list e) (settled-tops list s e)
+locations-tops : (list : List ℕ) → allOf isEntry list ≡ true → isSettled list ≡ true
+    → (t : Tile) → named locationTile (locationsOf list) t ≡ true → 0 < t .z → Full maxZoom (groundOf list) (parentTile t) → ⊥
+locations-tops list e s = rw (locations-named list e) (settled-tops list s e)
 
 -- two lists that have passed the tests
 module _ (a b : List ℕ) (passed : pairTests a b ≡ 0) where
@@ -76,43 +77,43 @@ module _ (a b : List ℕ) (passed : pairTests a b ≡ 0) where
   settled-b = and-parts (isSettled a) (isSettled b) (both .1) .1
 
   -- the sets that the code makes are the settled lists that are promised
-  pub join-entries : (all : Bool) → entriesInOrder (madeSet all (placesOf a) (placesOf b)) ≡ joinEntries all a b
+  pub join-entries : (all : Bool) → entriesInOrder (madeSet all (locationsOf a) (locationsOf b)) ≡ joinEntries all a b
   join-entries true =
-      simplified-entries (λ X Y. groundOf a X Y || groundOf b X Y) (named placeTile (placesOf a ++ placesOf b))
+      simplified-entries (λ X Y. groundOf a X Y || groundOf b X Y) (named locationTile (locationsOf a ++ locationsOf b))
       (subst (λ (S : Tile → Bool). Cover maxZoom (λ X Y. groundOf a X Y || groundOf b X Y) (λ t. S t ≡ true))
-      (λ i t. sym (named-append placeTile (placesOf a) (placesOf b) t) i)
-      (union-covers (named placeTile (placesOf a)) (named placeTile (placesOf b)) (places-cover a entries-a) (places-cover b entries-b)))
+      (λ i t. sym (named-append locationTile (locationsOf a) (locationsOf b) t) i)
+      (union-covers (named locationTile (locationsOf a)) (named locationTile (locationsOf b)) (locations-cover a entries-a) (locations-cover b entries-b)))
   join-entries false =
-      largest-entries (λ X Y. groundOf a X Y && groundOf b X Y) (shared (named placeTile (placesOf a)) (named placeTile (placesOf b)))
-      (common-covers (named placeTile (placesOf a)) (named placeTile (placesOf b)) (places-cover a entries-a) (places-cover b entries-b))
-      (common-tops (named placeTile (placesOf a)) (named placeTile (placesOf b)) (places-cover a entries-a) (places-cover b entries-b)
-      (places-tops a entries-a settled-a) (places-tops b entries-b settled-b))
+      largest-entries (λ X Y. groundOf a X Y && groundOf b X Y) (shared (named locationTile (locationsOf a)) (named locationTile (locationsOf b)))
+      (common-covers (named locationTile (locationsOf a)) (named locationTile (locationsOf b)) (locations-cover a entries-a) (locations-cover b entries-b))
+      (common-tops (named locationTile (locationsOf a)) (named locationTile (locationsOf b)) (locations-cover a entries-a) (locations-cover b entries-b)
+      (locations-tops a entries-a settled-a) (locations-tops b entries-b settled-b))
 
   pub left-entries : entriesInOrder (leftSet a b) ≡ differenceEntries a b
   left-entries =
       largest-entries (λ X Y. groundOf a X Y && not (groundOf b X Y)) (leftSet a b)
-      (difference-covers (placesOf a) (placesOf b) (groundOf a) (groundOf b) (places-cover a entries-a) (places-cover b entries-b))
-      (difference-tops (placesOf a) (placesOf b) (groundOf a) (groundOf b) (places-cover a entries-a) (places-cover b entries-b)
-      (places-tops a entries-a settled-a))
+      (difference-covers (locationsOf a) (locationsOf b) (groundOf a) (groundOf b) (locations-cover a entries-a) (locations-cover b entries-b))
+      (difference-tops (locationsOf a) (locationsOf b) (groundOf a) (groundOf b) (locations-cover a entries-a) (locations-cover b entries-b)
+      (locations-tops a entries-a settled-a))
 
-pub places-length : (list : List ℕ) → length (placesOf list) ≡ length list
-places-length list = sort-length (map (entryKey true) list) ∙ length-map list (entryKey true)
+pub locations-length : (list : List ℕ) → length (locationsOf list) ≡ length list
+locations-length list = sort-length (map (entryKey Location) list) ∙ length-map list (entryKey Location)
 
--- the places of both lists as two settled sets
+-- the locations of both lists as two settled sets
 module _ (a b keys : List ℕ) (r : Ready a b keys) where
   abbrev pub front : List ℕ
   front = take (length a + length b) keys
 
-  pub front-first : take (length a) front ≡ placesOf a
-  front-first = ap (take (length a)) (r .in-runs .places) ∙ take-at (placesOf a) (placesOf b) (length a) (places-length a)
+  pub front-first : take (length a) front ≡ locationsOf a
+  front-first = ap (take (length a)) (r .in-runs .locations) ∙ take-at (locationsOf a) (locationsOf b) (length a) (locations-length a)
 
-  pub front-second : drop (length a) front ≡ placesOf b
-  front-second = ap (drop (length a)) (r .in-runs .places) ∙ drop-at (placesOf a) (placesOf b) (length a) (places-length a)
+  pub front-second : drop (length a) front ≡ locationsOf b
+  front-second = ap (drop (length a)) (r .in-runs .locations) ∙ drop-at (locationsOf a) (locationsOf b) (length a) (locations-length a)
 
   pub front-length : length front ≡ length a + length b
   front-length = length-take-le (length a + length b) keys (r .long)
 
-  pub front-left : without (take (length a) front) (drop (length a) front) ≡ without (placesOf a) (placesOf b)
+  pub front-left : without (take (length a) front) (drop (length a) front) ≡ without (locationsOf a) (locationsOf b)
   front-left = ap₂ without front-first front-second
 
   pub front-parted : Parted front (length a)
@@ -128,30 +129,30 @@ module _ (a b keys : List ℕ) (r : Ready a b keys) where
   ahead = front a b keys r
 
   pub made-listed : {all : Bool} {after memory : List ℕ} {n count : ℕ} → Made all (take (length a) ahead) (drop (length a) ahead) after n
-      → Listed (named placeTile (take n after)) memory count → Listed (madeSet all (placesOf a) (placesOf b)) memory count
+      → Listed (named locationTile (take n after)) memory count → Listed (madeSet all (locationsOf a) (locationsOf b)) memory count
   made-listed {all} {after} {memory} {n} {count} m =
       subst (λ (S : Tile → Bool). Listed S memory count) (m .tiles ∙ ap₂ (madeSet all) (front-first a b keys r) (front-second a b keys r))
 
   abbrev tiles-left : List Tile
-  tiles-left = without (placesOf a) (placesOf b)
+  tiles-left = without (locationsOf a) (locationsOf b)
 
   pub few-left : length tiles-left ≤ length a + 3 * (maxZoom * length b)
-  few-left = rw (places-length a, places-length b) at (without-length (placesOf a) (r .in-runs .first) (placesOf b) (r .in-runs .second))
+  few-left = rw (locations-length a, locations-length b) at (without-length (locationsOf a) (r .in-runs .first) (locationsOf b) (r .in-runs .second))
 
   module _ (before after : List ℕ) (n : ℕ) (m : Remains (take (length a) ahead) (drop (length a) ahead) before after n)
       (e : length tiles-left ≤ length before) where
-    left-first : after ≡ map placeOf tiles-left ++ drop (length (map placeOf tiles-left)) before
+    left-first : after ≡ map locationOf tiles-left ++ drop (length (map locationOf tiles-left)) before
     left-first =
-        m .written ∙ (ap (λ (l : List Tile). sets before 0 (map placeOf l)) (front-left a b keys r)
-        ∙ sets-front before (map placeOf tiles-left) (omega (arith, length-map tiles-left placeOf)))
+        m .written ∙ (ap (λ (l : List Tile). sets before 0 (map locationOf l)) (front-left a b keys r)
+        ∙ sets-front before (map locationOf tiles-left) (omega (arith, length-map tiles-left locationOf)))
 
-    left-many : length (map placeOf tiles-left) ≡ n
-    left-many = length-map tiles-left placeOf ∙ sym (m .count ∙ ap length (front-left a b keys r))
+    left-many : length (map locationOf tiles-left) ≡ n
+    left-many = length-map tiles-left locationOf ∙ sym (m .count ∙ ap length (front-left a b keys r))
 
-    pub left-all : (take n after ≡ map placeOf tiles-left) × (n ≤ length after)
+    pub left-all : (take n after ≡ map locationOf tiles-left) × (n ≤ length after)
     left-all = (
-      rw left-first (take-at (map placeOf tiles-left) (drop (length (map placeOf tiles-left)) before) n left-many),
-      rw left-first (omega (arith, left-many, length-append (map placeOf tiles-left) (drop (length (map placeOf tiles-left)) before))),
+      rw left-first (take-at (map locationOf tiles-left) (drop (length (map locationOf tiles-left)) before) n left-many),
+      rw left-first (omega (arith, left-many, length-append (map locationOf tiles-left) (drop (length (map locationOf tiles-left)) before))),
     )
 
     left-twice : take n (take n after) ≡ take n after
@@ -159,18 +160,18 @@ module _ (a b keys : List ℕ) (r : Ready a b keys) where
 
     pub left-rest : drop n after ≡ drop n before
     left-rest = rw left-first
-        (drop-at (map placeOf tiles-left) (drop (length (map placeOf tiles-left)) before) n left-many
+        (drop-at (map locationOf tiles-left) (drop (length (map locationOf tiles-left)) before) n left-many
         ∙ ap (λ (i : ℕ). drop i before) left-many)
 
-    left-numbers : TileNumbers placeOf (take n after)
-    left-numbers = rw (left-all .0) (runs-numbers (map placeOf tiles-left) (without-runs (placesOf a) (placesOf b) (r .in-runs .first)))
+    left-numbers : TileNumbers locationOf (take n after)
+    left-numbers = rw (left-all .0) (runs-numbers (map locationOf tiles-left) (without-runs (locationsOf a) (locationsOf b) (r .in-runs .first)))
 
     -- where what is left is lent on by itself
-    pub part-numbers : (n ≤ length (take n after)) × TileNumbers placeOf (take n (take n after))
+    pub part-numbers : (n ≤ length (take n after)) × TileNumbers locationOf (take n (take n after))
     part-numbers = (omega (arith, length-take-le n after (left-all .1)), rw left-twice left-numbers)
 
-    pub part-listed : {memory : List ℕ} {count : ℕ} → Listed (named placeTile (take n (take n after))) memory count → Listed (leftSet a b) memory count
-    part-listed {memory} {count} = subst (λ (l : List ℕ). Listed (named placeTile l) memory count) (left-twice ∙ left-all .0)
+    pub part-listed : {memory : List ℕ} {count : ℕ} → Listed (named locationTile (take n (take n after))) memory count → Listed (leftSet a b) memory count
+    part-listed {memory} {count} = subst (λ (l : List ℕ). Listed (named locationTile l) memory count) (left-twice ∙ left-all .0)
 
 -- the ends of a call on lists that have passed the tests
 module _ (a b keys memory : List ℕ) (r : Ready a b keys) where
@@ -183,7 +184,8 @@ module _ (a b keys memory : List ℕ) (r : Ready a b keys) where
   join-short false h = rw (accepted, lt-ltb _ _ h)
 
   pub join-done : (all : Bool) (after : List ℕ) (n : ℕ) → length a + length b ≤ length memory → length after ≡ length a + length b
-      → Listed (madeSet all (placesOf a) (placesOf b)) after n → left (count.Counted n) (after ++ drop (length a + length b) memory) ≡ joinOf all a b memory
+      → Listed (madeSet all (locationsOf a) (locationsOf b)) after n
+      → left (count.Counted n) (after ++ drop (length a + length b) memory) ≡ joinOf all a b memory
   unfolding pairPlacesRefusal
   join-done all after n h e l = pick all items value
     where
@@ -202,12 +204,12 @@ module _ (a b keys memory : List ℕ) (r : Ready a b keys) where
       pick false i v = rw (accepted, le-ltb _ _ h, i, v)
 
   abbrev remains : List Tile
-  remains = without (placesOf a) (placesOf b)
+  remains = without (locationsOf a) (locationsOf b)
 
   pub left-count : length (differenceEntries a b) ≡ length remains
   left-count =
       sym (ap length (left-entries a b (r .passed)))
-      ∙ (runs-count (map placeOf remains) (without-runs (placesOf a) (placesOf b) (r .in-runs .first)) ∙ length-map remains placeOf)
+      ∙ (runs-count (map locationOf remains) (without-runs (locationsOf a) (locationsOf b) (r .in-runs .first)) ∙ length-map remains locationOf)
 
   pub difference-short : length memory < length remains → left (count.Refused Memory) memory ≡ differenceOf a b memory
   difference-short h = written-short (differenceEntries a b) memory accepted (omega (arith, left-count))
@@ -231,7 +233,8 @@ module _ (a b keys memory : List ℕ) (r : Ready a b keys) where
   counted-left e = e ∙ ap length (front-left a b keys r)
 
   pub written-all : (after : List ℕ) (n : ℕ) → Remains (take (length a) (front a b keys r)) (drop (length a) (front a b keys r)) memory after n
-      → length remains ≤ length memory → (part : List ℕ) (m : ℕ) → length part ≡ length (take n after) → Listed (named placeTile (take n (take n after))) part m
+      → length remains ≤ length memory → (part : List ℕ) (m : ℕ) → length part ≡ length (take n after)
+      → Listed (named locationTile (take n (take n after))) part m
       → left (count.Counted m) (part ++ drop n after) ≡ differenceOf a b memory
   written-all after n w e part m k l =
       let f : n ≡ length remains = counted-left (w .count) in

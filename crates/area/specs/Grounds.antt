@@ -16,7 +16,7 @@ use Rattle.ids.specs.Entry.{entryTile, entriesOf, isEntry, entry-again, entry-t
 use Rattle.tile.specs.OnMap.{tileAt}
 use Rattle.tile.specs.declared.Tile.{Tile}
 use Rattle.tile_list.specs.Laws.{named-by, names, listed-within}
-use Rattle.quadtree.specs.Places.{map-tile}
+use Rattle.quadtree.specs.Locations.{map-tile}
 use Rattle.tile_list.specs.List.{listed, entriesInOrder}
 use Rattle.tile_set.specs.Holds.{Holds, Valid}
 use Rattle.tile_set.specs.Merged.{is-false}

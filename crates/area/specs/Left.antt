@@ -13,33 +13,33 @@ use Rattle.difference.specs.Ground.{Needed, left-covers, left-needed, left-vali
 use Rattle.difference.specs.Left.{leftOf, without}
 use Rattle.ground.specs.Cells.{first-cell, cell-on-map, full-cells}
 use Rattle.ground.specs.Largest.{Full, Cover}
-use Rattle.quadtree.specs.Laws.{place-tile}
-use Rattle.quadtree.specs.Numbers.{placeOf, placeTile}
+use Rattle.quadtree.specs.Laws.{location-tile}
+use Rattle.quadtree.specs.Numbers.{locationOf, locationTile}
 use Rattle.tile.specs.OnMap.{tileAt}
 use Rattle.tile.specs.declared.Tile.{Tile}
 use Rattle.tile_list.specs.Laws.{named-by, names}
-use Rattle.quadtree.specs.Places.{map-tile}
+use Rattle.quadtree.specs.Locations.{map-tile}
 use Rattle.tile_list.specs.List.{named}
 use Rattle.tile_set.specs.Holds.{Holds, holds-trans, Valid}
 use Rattle.tile_set.specs.Merged.{is-false}
 use Rattle.tile_set.specs.Set.{parentTile}
 
-module _ (kept gone : List ℕ) (G H : ℕ → ℕ → Bool) (C : Cover maxZoom G (λ t. named placeTile kept t ≡ true))
-    (E : Cover maxZoom H (λ t. named placeTile gone t ≡ true)) where
+module _ (kept gone : List ℕ) (G H : ℕ → ℕ → Bool) (C : Cover maxZoom G (λ t. named locationTile kept t ≡ true))
+    (E : Cover maxZoom H (λ t. named locationTile gone t ≡ true)) where
   abbrev taken : List Tile
-  taken = map placeTile gone
+  taken = map locationTile gone
 
   abbrev pub Left : Tile → Type 0
-  Left t = named placeTile (map placeOf (without kept gone)) t ≡ true
+  Left t = named locationTile (map locationOf (without kept gone)) t ≡ true
 
   abbrev only : ℕ → ℕ → Bool
   only X Y = G X Y && not (H X Y)
 
-  of-taken : (g : Tile) → List·Memᴰ g taken → named placeTile gone g ≡ true
-  of-taken g m = let s = in-map placeTile gone m in names placeTile gone (s .0) g (s .1) (sym (s .2))
+  of-taken : (g : Tile) → List·Memᴰ g taken → named locationTile gone g ≡ true
+  of-taken g m = let s = in-map locationTile gone m in names locationTile gone (s .0) g (s .1) (sym (s .2))
 
-  in-taken : (g : Tile) → named placeTile gone g ≡ true → List·Memᴰ g taken
-  in-taken g e = let s = named-by placeTile gone g e in Memᴰ·cast (sym (s .2)) (into-map placeTile gone (s .1))
+  in-taken : (g : Tile) → named locationTile gone g ≡ true → List·Memᴰ g taken
+  in-taken g e = let s = named-by locationTile gone g e in Memᴰ·cast (sym (s .2)) (into-map locationTile gone (s .1))
 
   deep : (g : Tile) → List·Memᴰ g taken → g .z ≤ maxZoom
   deep g m = E .of-map g (of-taken g m) .zoom
@@ -47,15 +47,15 @@ module _ (kept gone : List ℕ) (G H : ℕ → ℕ → Bool) (C : Cover maxZoom 
   -- where a tile that is left comes from
   pub record From (t : Tile) : Type 0 where
     pub whole : Tile
-    pub in-kept : named placeTile kept whole ≡ true
+    pub in-kept : named locationTile kept whole ≡ true
     pub valid : Valid maxZoom whole
     pub part : List·Memᴰ t (leftOf (maxZoom - whole .z) taken whole)
 
   from-list : (t : Tile) → List·Memᴰ t (without kept gone) → From t
   from-list t m =
-      let r = in-left-all maxZoom taken (map placeTile kept) m in
-      let s = in-map placeTile kept (r .1) in
-      let e = names placeTile kept (s .0) (r .0) (s .1) (sym (s .2)) in
+      let r = in-left-all maxZoom taken (map locationTile kept) m in
+      let s = in-map locationTile kept (r .1) in
+      let e = names locationTile kept (s .0) (r .0) (s .1) (sym (s .2)) in
       record { whole = r .0; in-kept = e; valid = C .of-map (r .0) e; part = r .2 }
 
   left-of-map : (t : Tile) → List·Memᴰ t (without kept gone) → Valid maxZoom t
@@ -63,14 +63,15 @@ module _ (kept gone : List ℕ) (G H : ℕ → ℕ → Bool) (C : Cover maxZoom 
 
   in-list : (t : Tile) → Left t → List·Memᴰ t (without kept gone)
   in-list t e =
-      let s = named-by placeTile (map placeOf (without kept gone)) t e in
-      let u = in-map placeOf (without kept gone) (s .1) in
+      let s = named-by locationTile (map locationOf (without kept gone)) t e in
+      let u = in-map locationOf (without kept gone) (s .1) in
       let v = left-of-map (u .0) (u .1) in
-      Memᴰ·cast (sym (sym (place-tile (u .0) (map-tile (u .0) v)) ∙ (ap placeTile (sym (u .2)) ∙ s .2))) (u .1)
+      Memᴰ·cast (sym (sym (location-tile (u .0) (map-tile (u .0) v)) ∙ (ap locationTile (sym (u .2)) ∙ s .2))) (u .1)
 
   list-in : (t : Tile) → List·Memᴰ t (without kept gone) → Left t
   list-in t m =
-      names placeTile (map placeOf (without kept gone)) (placeOf t) t (into-map placeOf (without kept gone) m) (place-tile t (map-tile t (left-of-map t m)))
+      names locationTile (map locationOf (without kept gone)) (locationOf t) t (into-map locationOf (without kept gone) m)
+      (location-tile t (map-tile t (left-of-map t m)))
 
   -- no tile that is taken away holds the cell, exactly where the cell is not in its ground
   spared : (X Y : ℕ) → X < 2 ^ maxZoom → Y < 2 ^ maxZoom → H X Y ≡ false → (g : Tile) → List·Memᴰ g taken → Holds g (tileAt X Y maxZoom) → ⊥
@@ -88,8 +89,8 @@ module _ (kept gone : List ℕ) (G H : ℕ → ℕ → Bool) (C : Cover maxZoom 
           let w = C .covers X Y a b (p .0) in
           let v = C .of-map (w .0) (w .1) in
           let r = left-covers maxZoom taken deep (tileAt X Y maxZoom) refl (w .0) (v .zoom) .1 (w .2, spared X Y a b (not-true (H X Y) (p .1))) in
-          let s = named-by placeTile kept (w .0) (w .1) in
-          (r .0, list-in (r .0) (left-all-in maxZoom taken (map placeTile kept) (Memᴰ·cast (sym (s .2)) (into-map placeTile kept (s .1))) (r .1)), r .2)
+          let s = named-by locationTile kept (w .0) (w .1) in
+          (r .0, list-in (r .0) (left-all-in maxZoom taken (map locationTile kept) (Memᴰ·cast (sym (s .2)) (into-map locationTile kept (s .1))) (r .1)), r .2)
 
       covered : (X Y : ℕ) (t : Tile) → Left t → Holds t (tileAt X Y maxZoom) → only X Y ≡ true
       covered X Y t e h =
@@ -99,7 +100,7 @@ module _ (kept gone : List ℕ) (G H : ℕ → ℕ → Bool) (C : Cover maxZoom 
           rw (C .covered X Y (f .whole) (f .in-kept) (r .0), not-in X Y (b .0) (b .1) (r .1))
 
   -- the parent of a tile that is left is not full: it is no larger part of the first list's ground, or it holds a tile that is taken away
-  pub difference-tops : ((t : Tile) → named placeTile kept t ≡ true → 0 < t .z → Full maxZoom G (parentTile t) → ⊥)
+  pub difference-tops : ((t : Tile) → named locationTile kept t ≡ true → 0 < t .z → Full maxZoom G (parentTile t) → ⊥)
       → (t : Tile) → Left t → 0 < t .z → Full maxZoom only (parentTile t) → ⊥
   difference-tops tops t e l full = pick (left-needed maxZoom taken deep (f .whole) (f .valid .zoom) t (f .part))
     where

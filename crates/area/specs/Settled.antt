@@ -20,7 +20,7 @@ use Rattle.settled.specs.Settled.{isBefore, strictlyInOrder, isSettled}
 use Rattle.tile.specs.Order.{Before}
 use Rattle.tile.specs.declared.Tile.{Tile}
 use Rattle.tile_list.specs.Laws.{named-by, names, listed-within}
-use Rattle.quadtree.specs.Places.{map-tile}
+use Rattle.quadtree.specs.Locations.{map-tile}
 use Rattle.tile_list.specs.List.{listed}
 use Rattle.tile_set.specs.InOrder.{Ordered}
 use Rattle.tile_set.specs.Merged.{Apart, is-false, whole-all}

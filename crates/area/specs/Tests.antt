@@ -1,4 +1,4 @@
--- The tests of two lists: refusals 6, 7 and 11, and what the code knows of the places when they are passed.
+-- The tests of two lists: refusals 6, 7 and 11, and what the code knows of the locations when they are passed.
 use mathlib.Core.Path.{_≡_, sym, ap, ap₂, _∙_}
 use mathlib.Core.Bool.{Bool, true, false, not, or-true, false≢true}
 use mathlib.Core.List.{List, _++_, map}
@@ -11,7 +11,7 @@ use lib.Dec.{ltb}
 use lib.ListN.{length, take, drop, replicate, length-replicate, length-append, length-map}
 use lib.Seq.{take-at, drop-at, length-take-le}
 use Rattle.area.specs.Area.{pairRefusal, pairPlacesRefusal, differenceEntries}
-use Rattle.area.specs.Work.{workOf, KeyedBoth, InRuns, SettledBoth, pairTests, Placed, Ready}
+use Rattle.area.specs.Work.{workOf, KeyedBoth, InRuns, SettledBoth, pairTests, Located, Ready}
 use Rattle.area.specs.declared.Work.{Work}
 use Rattle.area.specs.declared.Work.the-variants.{Union, Common, Difference}
 use Rattle.bits.specs.Tests.{and-parts, not-true, not-false, allOf}
@@ -28,6 +28,7 @@ use Rattle.errors.specs.declared.Refusal.the-variants.{TooMany, NoTile, NotSett
 use Rattle.exchange.specs.Laws.{both-parts}
 use Rattle.ids.specs.Entry.{isEntry}
 use Rattle.quadtree.specs.Lists.{entryKey, Keyed, keys-refused, keys-fine}
+use Rattle.quadtree.specs.declared.Key.the-variants.{Location}
 use Rattle.settled.specs.Answers.{Tested}
 
 -- the refusals of two lists
@@ -58,8 +59,8 @@ too-many work a b memory n (inr e) h = refused work TooMany a b memory (sym (sec
 
 -- the keys of both lists, one behind the other in `keys`
 
-pub no-tile-first : (a b keys ya : List ℕ) (fine : Bool) → Keyed true a ya fine → not fine ≡ true → KeyedBoth a b keys false
-no-tile-first a b keys ya fine k e = record { answer = rw (← keys-refused true fine a ya k e); both = λ f. absurd (false≢true f) }
+pub no-tile-first : (a b keys ya : List ℕ) (fine : Bool) → Keyed Location a ya fine → not fine ≡ true → KeyedBoth a b keys false
+no-tile-first a b keys ya fine k e = record { answer = rw (← keys-refused Location fine a ya k e); both = λ f. absurd (false≢true f) }
 
 module _ (a b t : List ℕ) (e : length a + length b ≡ length t) where
   fits : length a ≤ length t
@@ -69,10 +70,10 @@ module _ (a b t : List ℕ) (e : length a + length b ≡ length t) where
   abbrev pub refilled : List ℕ → List ℕ → List ℕ
   refilled ya yb = putMid (length a) (length (ya ++ drop (length a) t) - length a) (ya ++ drop (length a) t) yb
 
-  pub keyed-both : (ya yb : List ℕ) (first second : Bool) → length ya ≡ length (take (length a) t) → Keyed true a ya first → not first ≡ false
-      → Keyed true b yb second → KeyedBoth a b (refilled ya yb) second
+  pub keyed-both : (ya yb : List ℕ) (first second : Bool) → length ya ≡ length (take (length a) t) → Keyed Location a ya first → not first ≡ false
+      → Keyed Location b yb second → KeyedBoth a b (refilled ya yb) second
   keyed-both ya yb first second l k f m = record {
-    answer = rw (← keys-fine true first a ya k f) (m .answer);
+    answer = rw (← keys-fine Location first a ya k f) (m .answer);
     both = λ g. both-parts t ya (length a) fits l yb ∙ ap₂ _++_ (k .keys (not-false first f)) (m .keys g);
   }
 
@@ -85,7 +86,7 @@ module _ (a b t : List ℕ) (e : length a + length b ≡ length t) where
 
       in-runs : second ≡ true → InRuns a b (refilled ya yb)
       in-runs g = record {
-        places = both-parts t ya (length a) fits l yb ∙ ap₂ _++_ (k .in-order passed) (m .in-order g);
+        locations = both-parts t ya (length a) fits l yb ∙ ap₂ _++_ (k .in-order passed) (m .in-order g);
         first = rw (← k .in-order passed) (k .runs passed);
         second = rw (← m .in-order g) (m .runs g);
       }
@@ -94,35 +95,36 @@ pub first-not-settled : (a b keys ya : List ℕ) (r : Bool) → Tested a ya r �
 first-not-settled a b keys ya r k e = record { answer = rw (← (sym (not-true r e) ∙ k .answer)); in-runs = λ f. absurd (false≢true f) }
 
 -- both parts of the keys, as the tests want them
-pub first-keys : (a b keys : List ℕ) → keys ≡ map (entryKey true) a ++ map (entryKey true) b → take (length a) keys ≡ map (entryKey true) a
-first-keys a b keys e = ap (take (length a)) e ∙ take-at (map (entryKey true) a) (map (entryKey true) b) (length a) (length-map a (entryKey true))
+pub first-keys : (a b keys : List ℕ) → keys ≡ map (entryKey Location) a ++ map (entryKey Location) b → take (length a) keys ≡ map (entryKey Location) a
+first-keys a b keys e = ap (take (length a)) e ∙ take-at (map (entryKey Location) a) (map (entryKey Location) b) (length a) (length-map a (entryKey Location))
 
-pub second-keys : (a b keys : List ℕ) → keys ≡ map (entryKey true) a ++ map (entryKey true) b → drop (length a) keys ≡ map (entryKey true) b
-second-keys a b keys e = ap (drop (length a)) e ∙ drop-at (map (entryKey true) a) (map (entryKey true) b) (length a) (length-map a (entryKey true))
+pub second-keys : (a b keys : List ℕ) → keys ≡ map (entryKey Location) a ++ map (entryKey Location) b → drop (length a) keys ≡ map (entryKey Location) b
+second-keys a b keys e = ap (drop (length a)) e ∙ drop-at (map (entryKey Location) a) (map (entryKey Location) b) (length a) (length-map a (entryKey Location))
 
 pub keyed-entries : (a b keys : List ℕ) → KeyedBoth a b keys true → (allOf isEntry a ≡ true) × (allOf isEntry b ≡ true)
 keyed-entries a b keys k = and-parts (allOf isEntry a) (allOf isEntry b) (sym (k .answer))
 
 -- the tests of the two, as one refusal
-pub placed-no-tile : (a b keys keys' : List ℕ) (r : Bool) → KeyedBoth a b keys r → not r ≡ true → Placed a b keys' (check.Refused NoTile)
-placed-no-tile a b keys keys' r k e = record { refusal = rw (← (sym (not-true r e) ∙ k .answer)); in-runs = λ p. absurd (never-zero NoTile (ap checkNumber p)) }
+pub located-no-tile : (a b keys keys' : List ℕ) (r : Bool) → KeyedBoth a b keys r → not r ≡ true → Located a b keys' (check.Refused NoTile)
+located-no-tile a b keys keys' r k e =
+    record { refusal = rw (← (sym (not-true r e) ∙ k .answer)); in-runs = λ p. absurd (never-zero NoTile (ap checkNumber p)) }
 
-pub placed-not-settled : (a b keys keys' keys'' : List ℕ) (r s : Bool) → KeyedBoth a b keys r → not r ≡ false → SettledBoth a b keys' s → not s ≡ true
-    → Placed a b keys'' (check.Refused NotSettled)
-placed-not-settled a b keys keys' keys'' r s k e m f = record {
+pub located-not-settled : (a b keys keys' keys'' : List ℕ) (r s : Bool) → KeyedBoth a b keys r → not r ≡ false → SettledBoth a b keys' s → not s ≡ true
+    → Located a b keys'' (check.Refused NotSettled)
+located-not-settled a b keys keys' keys'' r s k e m f = record {
   refusal = rw (← (sym (not-false r e) ∙ k .answer), ← (sym (not-true s f) ∙ m .answer));
   in-runs = λ p. absurd (never-zero NotSettled (ap checkNumber p));
 }
 
-pub placed-fine : (a b keys keys' : List ℕ) (r s : Bool) → KeyedBoth a b keys r → not r ≡ false → SettledBoth a b keys' s → not s ≡ false
-    → Placed a b keys' check.Fine
-placed-fine a b keys keys' r s k e m f = record {
+pub located-fine : (a b keys keys' : List ℕ) (r s : Bool) → KeyedBoth a b keys r → not r ≡ false → SettledBoth a b keys' s → not s ≡ false
+    → Located a b keys' check.Fine
+located-fine a b keys keys' r s k e m f = record {
   refusal = rw (← (sym (not-false r e) ∙ k .answer), ← (sym (not-false s f) ∙ m .answer));
   in-runs = λ p. m .in-runs (not-false s f);
 }
 
 pub made-ready : (a b keys part : List ℕ) (r : Check) → length a ≤ maxEntries → length b ≤ maxEntries → length a + length b ≤ length keys
-    → length part ≡ length (take (length a + length b) keys) → Placed a b part r → r ≡ check.Fine → Ready a b (part ++ drop (length a + length b) keys)
+    → length part ≡ length (take (length a + length b) keys) → Located a b part r → r ≡ check.Fine → Ready a b (part ++ drop (length a + length b) keys)
 made-ready a b keys part r h k l e p f = record {
   first-few = h;
   second-few = k;
@@ -134,9 +136,9 @@ made-ready a b keys part r h k l e p f = record {
     size : length part ≡ length a + length b
     size = e ∙ length-take-le (length a + length b) keys l
 
-pub not-placed : (work : Work) (a b keys memory : List ℕ) (r : Check) (why : Refusal) → length a ≤ maxEntries → length b ≤ maxEntries → Placed a b keys r
+pub not-located : (work : Work) (a b keys memory : List ℕ) (r : Check) (why : Refusal) → length a ≤ maxEntries → length b ≤ maxEntries → Located a b keys r
     → r ≡ check.Refused why → left (count.Refused why) memory ≡ workOf work a b memory
-not-placed work a b keys memory r why h k p f = refused work why a b memory (check-refused f (p .refusal) ∙ sym (pair-few a b h k))
+not-located work a b keys memory r why h k p f = refused work why a b memory (check-refused f (p .refusal) ∙ sym (pair-few a b h k))
 
 -- a scratch of `size` places is enough for two lists of `most` entries each
 pub lent-enough : (most size : ℕ) (a b : List ℕ) → length a ≤ most → length b ≤ most → most ≤ maxEntries → most + most ≤ size

@@ -4,13 +4,14 @@ use constants::MAX_ZOOM;
 use errors::Check;
 use errors::Count;
 use errors::Refusal;
+use quadtree::Key;
 ghost use mathlib.Core.Path.{_≡_};
 ghost use mathlib.Core.Bool.{true};
 ghost use mathlib.Core.Logic.{_⊎_};
 ghost use Prim.Native.Nat.{_+_, _*_, _≤_};
 ghost use lib.ListN.{length, take, drop};
 ghost use Rattle.area.specs.Area.{unionOf, commonOf, differenceOf};
-ghost use Rattle.area.specs.Work.{workOf, joinOf, placesOf, KeyedBoth, SettledBoth, Placed, Ready, Parted, Made, Remains, madeSet};
+ghost use Rattle.area.specs.Work.{workOf, joinOf, locationsOf, KeyedBoth, SettledBoth, Located, Ready, Parted, Made, Remains, madeSet};
 ghost use Rattle.constants.specs.Limits.{maxEntries, maxZoom};
 ghost use Rattle.difference.specs.Left.{without};
 ghost use Rattle.errors.specs.Cases.{left};
@@ -113,16 +114,16 @@ fn work_in(
     ensures { λ r. ⌜ left r (now (out .exit)) ≡ workOf work (now (a .entry)) (now (b .entry)) (now (out .entry)) ⌝ }
 {
     let both = a.len() + b.len();
-    match placed(a, b, &mut keys[..both], spare) {
+    match located(a, b, &mut keys[..both], spare) {
         Check::Fine => worked(a, b, work, keys, out),
         Check::Refused(why) => Count::Refused(why),
     }
 }
 
-// The places of both lists' tiles, each list's in order, or the refusal of the two.
-fn placed(a: &[u64], b: &[u64], keys: &mut [u64], spare: &mut [u64]) -> Check
+// The locations of both lists' tiles, each list's in order, or the refusal of the two.
+fn located(a: &[u64], b: &[u64], keys: &mut [u64], spare: &mut [u64]) -> Check
     requires { ⌜ length (now a) + length (now b) ≡ length (now keys) ⌝ }
-    ensures { λ r. ⌜ Placed (now (a .entry)) (now (b .entry)) (now (keys .exit)) r ⌝ }
+    ensures { λ r. ⌜ Located (now (a .entry)) (now (b .entry)) (now (keys .exit)) r ⌝ }
 {
     if !keyed(a, b, keys) {
         return Check::Refused(Refusal::NoTile);
@@ -138,10 +139,10 @@ fn keyed(a: &[u64], b: &[u64], keys: &mut [u64]) -> bool
     ensures { λ r. ⌜ KeyedBoth (now (a .entry)) (now (b .entry)) (now (keys .exit)) r ⌝ }
 {
     let n = a.len();
-    if !quadtree::keys(a, &mut keys[..n], true) {
+    if !quadtree::keys(a, &mut keys[..n], Key::Location) {
         return false;
     }
-    quadtree::keys(b, &mut keys[n..], true)
+    quadtree::keys(b, &mut keys[n..], Key::Location)
 }
 
 fn both_settled(a: &[u64], b: &[u64], keys: &mut [u64], spare: &mut [u64]) -> bool
@@ -180,29 +181,29 @@ fn joined(a: &[u64], b: &[u64], all: bool, keys: &mut [u64], out: &mut [u64]) ->
 
 fn join(a: &[u64], b: &[u64], all: bool, keys: &mut [u64], out: &mut [u64]) -> usize
     requires { ⌜ Ready (now a) (now b) (now keys) × (length (now a) + length (now b) ≡ length (now out)) ⌝ }
-    ensures { λ r. ⌜ Listed (madeSet all (placesOf (now (a .entry))) (placesOf (now (b .entry)))) (now (out .exit)) r ⌝ }
+    ensures { λ r. ⌜ Listed (madeSet all (locationsOf (now (a .entry))) (locationsOf (now (b .entry)))) (now (out .exit)) r ⌝ }
 {
     let n = a.len();
     let both = n + b.len();
     let count = made(&keys[..both], n, all, out);
-    tile_list::finish(out, count, keys, true)
+    tile_list::finish(out, count, keys, Key::Location)
 }
 
-fn made(places: &[u64], n: usize, all: bool, out: &mut [u64]) -> usize
-    requires { ⌜ Parted (now places) n × (length (now places) ≡ length (now out)) ⌝ }
-    ensures { λ r. ⌜ Made all (take n (now (places .entry))) (drop n (now (places .entry))) (now (out .exit)) r ⌝ }
+fn made(locations: &[u64], n: usize, all: bool, out: &mut [u64]) -> usize
+    requires { ⌜ Parted (now locations) n × (length (now locations) ≡ length (now out)) ⌝ }
+    ensures { λ r. ⌜ Made all (take n (now (locations .entry))) (drop n (now (locations .entry))) (now (out .exit)) r ⌝ }
 {
     if all {
-        return united(places, n, out);
+        return united(locations, n, out);
     }
-    common::common(&places[..n], &places[n..], out)
+    common::common(&locations[..n], &locations[n..], out)
 }
 
-fn united(places: &[u64], n: usize, out: &mut [u64]) -> usize
-    requires { ⌜ Parted (now places) n × (length (now places) ≡ length (now out)) ⌝ }
-    ensures { λ r. ⌜ Made true (take n (now (places .entry))) (drop n (now (places .entry))) (now (out .exit)) r ⌝ }
+fn united(locations: &[u64], n: usize, out: &mut [u64]) -> usize
+    requires { ⌜ Parted (now locations) n × (length (now locations) ≡ length (now out)) ⌝ }
+    ensures { λ r. ⌜ Made true (take n (now (locations .entry))) (drop n (now (locations .entry))) (now (out .exit)) r ⌝ }
 {
-    exchange::merge(&places[..n], &places[n..], out);
+    exchange::merge(&locations[..n], &locations[n..], out);
     settle::settle(out, 0)
 }
 
@@ -232,28 +233,28 @@ fn most_left(n: usize, m: usize) -> usize
 }
 
 // Where there is no room, the tiles that are left are only counted.
-fn counted(places: &[u64], n: usize) -> usize
-    requires { ⌜ Parted (now places) n ⌝ }
-    ensures { λ r. ⌜ r ≡ length (without (take n (now (places .entry))) (drop n (now (places .entry)))) ⌝ }
+fn counted(locations: &[u64], n: usize) -> usize
+    requires { ⌜ Parted (now locations) n ⌝ }
+    ensures { λ r. ⌜ r ≡ length (without (take n (now (locations .entry))) (drop n (now (locations .entry)))) ⌝ }
 {
-    let mut place = [0u64; 1];
-    remain(places, n, &mut place)
+    let mut room = [0u64; 1];
+    remain(locations, n, &mut room)
 }
 
-fn remain(places: &[u64], n: usize, out: &mut [u64]) -> usize
-    requires { ⌜ Parted (now places) n ⌝ }
-    ensures { λ r. ⌜ Remains (take n (now (places .entry))) (drop n (now (places .entry))) (now (out .entry)) (now (out .exit)) r ⌝ }
+fn remain(locations: &[u64], n: usize, out: &mut [u64]) -> usize
+    requires { ⌜ Parted (now locations) n ⌝ }
+    ensures { λ r. ⌜ Remains (take n (now (locations .entry))) (drop n (now (locations .entry))) (now (out .entry)) (now (out .exit)) r ⌝ }
 {
-    difference::left(&places[..n], &places[n..], out)
+    difference::left(&locations[..n], &locations[n..], out)
 }
 
 // What is left goes to memory that has room for it, and becomes a list there.
 fn written(a: &[u64], b: &[u64], keys: &mut [u64], out: &mut [u64]) -> usize
-    requires { ⌜ Ready (now a) (now b) (now keys) × (length (without (placesOf (now a)) (placesOf (now b))) ≤ length (now out)) ⌝ }
+    requires { ⌜ Ready (now a) (now b) (now keys) × (length (without (locationsOf (now a)) (locationsOf (now b))) ≤ length (now out)) ⌝ }
     ensures { λ r. ⌜ left (Counted r) (now (out .exit)) ≡ differenceOf (now (a .entry)) (now (b .entry)) (now (out .entry)) ⌝ }
 {
     let n = a.len();
     let both = n + b.len();
     let count = remain(&keys[..both], n, out);
-    tile_list::finish(&mut out[..count], count, keys, true)
+    tile_list::finish(&mut out[..count], count, keys, Key::Location)
 }

@@ -28,7 +28,7 @@ use Rattle.settled.specs.Settled.{isSettled}
 use Rattle.tile.specs.OnMap.{OnMap}
 use Rattle.tile.specs.declared.Tile.{Tile}
 use Rattle.tile_list.specs.Gives.{listed-gives}
-use Rattle.quadtree.specs.Places.{valid-tile, map-tile}
+use Rattle.quadtree.specs.Locations.{valid-tile, map-tile}
 use Rattle.tile_list.specs.List.{listed, entriesInOrder, listRefusal, placesRefusal}
 use Rattle.tile_set.specs.Holds.{Valid}
 use Rattle.tile_set.specs.Merged.{or-cases, is-false}

@@ -1,4 +1,4 @@
--- The walk over two lists of places: which of those that are passed are written, and why no other had to be.
+-- The walk over two lists of locations: which of those that are passed are written, and why no other had to be.
 use mathlib.Core.Path.{_≡_, refl, ap, _∙_, subst}
 use mathlib.Core.Logic.{_⊎_, inl, inr, ⊎-elim}
 use mathlib.Core.Bool.{true, _&&_, or-true}
@@ -8,9 +8,9 @@ use native.Mathlib.Omega.{arith}
 use lib.ListN.{length, take, getD, set}
 use lib.Seq.{getD-set-same, getD-set-other}
 use Rattle.bits.specs.Tests.{and-parts, getD-in}
-use Rattle.quadtree.specs.Numbers.{placeTile}
+use Rattle.quadtree.specs.Numbers.{locationTile}
 use Rattle.sort.specs.At.{in-at, taken-at, at-taken}
-use Rattle.quadtree.specs.Places.{lowOf, startOf, endOf, low-pos, low-below, Lie, holding, held, before, after, lies, held-run, IsPlace, tiles, Runs}
+use Rattle.quadtree.specs.Locations.{lowOf, startOf, endOf, low-pos, low-below, Lie, holding, held, before, after, lies, held-run, IsLocation, tiles, Runs}
 use Rattle.sort.specs.Laws.{eq-or-ne, le-or-lt}
 use Rattle.tile.specs.declared.Tile.{Tile}
 use Rattle.tile_list.specs.Laws.{named-by, names}
@@ -21,14 +21,14 @@ use Rattle.tile_set.specs.Set.{ancestor}
 use Rattle.tile_set.specs.Uncovered.{any-below-of, any-below-in}
 use Rattle.common.specs.Common.{heldBy, shared, Common}
 
--- the place v stands in a, and its tile lies in one of b
+-- the location v stands in a, and its tile lies in one of b
 pub record Lies (a b : List ℕ) (v : ℕ) : Type 0 where
   pub at : ℕ
   pub in-a : at < length a
   pub is : getD a at 0 ≡ v
   pub holder : ℕ
   pub in-b : holder < length b
-  pub holds : Holds (tiles b holder) (placeTile v)
+  pub holds : Holds (tiles b holder) (locationTile v)
 
 -- v is among the first n
 pub record Written (out : List ℕ) (n v : ℕ) : Type 0 where
@@ -42,7 +42,7 @@ pub record Passed (a b out : List ℕ) (i j n : ℕ) : Type 0 where
   pub kept : (k m : ℕ) → k < i → m < length b → Holds (tiles b m) (tiles a k) → Written out n (getD a k 0)
   pub ahead : (k m : ℕ) → k < i → j ≤ m → m < length b → Holds (tiles a k) (tiles b m) → Written out n (getD b m 0)
 
--- the first i of a and the first j of b are passed, and n places are written, each by right
+-- the first i of a and the first j of b are passed, and n locations are written, each by right
 pub record Walked (a b out : List ℕ) (i j n : ℕ) : Type 0 where
   pub room : n ≤ i + j
   pub right : (k : ℕ) → k < n → Lies a b (getD out k 0) ⊎ Lies b a (getD out k 0)
@@ -90,12 +90,24 @@ module _ {l : List ℕ} (r : Runs l) where
       let u = held-run e (r .each j k .of-map) in
       omega (arith, r .rise i j h k, u .1, low-pos (tiles l j), low-below (tiles l j))
 
--- tiles that hold each other are one place
-one-place : {p q : ℕ} → IsPlace p → IsPlace q → Holds (placeTile p) (placeTile q) → Holds (placeTile q) (placeTile p) → p ≡ q
-one-place {p} {q} s t h k =
+-- tiles that hold each other are one location
+one-location : {p q : ℕ} → IsLocation p → IsLocation q → Holds (locationTile p) (locationTile q) → Holds (locationTile q) (locationTile p) → p ≡ q
+one-location {p} {q} s t h k =
     let u = held-run h (t .of-map) in
     let v = held-run k (s .of-map) in
-    omega (arith, s .again, t .again, u .0, u .1, v .0, v .1, low-pos (placeTile p), low-pos (placeTile q), low-below (placeTile p), low-below (placeTile q))
+    omega (
+      arith,
+      s .again,
+      t .again,
+      u .0,
+      u .1,
+      v .0,
+      v .1,
+      low-pos (locationTile p),
+      low-pos (locationTile q),
+      low-below (locationTile p),
+      low-below (locationTile q),
+    )
 
 module _ {a b out : List ℕ} {i j n : ℕ} (ra : Runs a) (rb : Runs b) (w : Walked a b out i j n) (ha : i < length a) (hb : j < length b) where
   -- the run of a's next tile is over before that of b's begins
@@ -156,20 +168,20 @@ module _ {a b out : List ℕ} {i j n : ℕ} (ra : Runs a) (rb : Runs b) (w : Wal
       ahead-here : (k m : ℕ) → k ≡ i → j ≤ m → m < length b → Holds (tiles a k) (tiles b m) → Written (set out n v) (n + 1) (getD b m 0)
       ahead-here k m q le g e =
           ⊎-elim
-          (λ s. subst (λ (u : ℕ). Written (set out n v) (n + 1) u) (one-place (ra .each i ha) (rb .each m g) (rw q at e) (rw s at in')) (new out n v h))
+          (λ s. subst (λ (u : ℕ). Written (set out n v) (n + 1) u) (one-location (ra .each i ha) (rb .each m g) (rw q at e) (rw s at in')) (new out n v h))
           (λ f. absurd (not-inside rb j m (omega arith) g (holds-trans in' (rw q at e))))
           (eq-or-ne j m)
 
 -- runs that overlap are nested: the shorter lies in the longer
-pub nested : {p q l m : ℕ} → IsPlace p → IsPlace q → l ≡ lowOf (placeTile p) → m ≡ lowOf (placeTile q)
-    → q - m < p + l → p - l < q + m → l ≤ m → Holds (placeTile q) (placeTile p)
-nested {p} {q} s t el em h k le = pick (lies (placeTile p) (placeTile q) (s .of-map) (t .of-map))
+pub nested : {p q l m : ℕ} → IsLocation p → IsLocation q → l ≡ lowOf (locationTile p) → m ≡ lowOf (locationTile q)
+    → q - m < p + l → p - l < q + m → l ≤ m → Holds (locationTile q) (locationTile p)
+nested {p} {q} s t el em h k le = pick (lies (locationTile p) (locationTile q) (s .of-map) (t .of-map))
   where
-    pick : Lie (placeTile p) (placeTile q) → Holds (placeTile q) (placeTile p)
+    pick : Lie (locationTile p) (locationTile q) → Holds (locationTile q) (locationTile p)
     pick (holding e) =
         let u = held-run e (t .of-map) in
-        let same : p ≡ q = omega (arith, s .again, t .again, u .0, u .1, low-below (placeTile p), low-below (placeTile q)) in
-        rw same (holds-refl (placeTile q))
+        let same : p ≡ q = omega (arith, s .again, t .again, u .0, u .1, low-below (locationTile p), low-below (locationTile q)) in
+        rw same (holds-refl (locationTile q))
     pick (held e) = e
     pick (before e) = absurd (omega (arith, s .again, t .again))
     pick (after e) = absurd (omega (arith, s .again, t .again))
@@ -183,66 +195,66 @@ all-kept {a} {b} {out} {i} {j} {n} w done k m f g e =
     (λ lt. w .one .kept k m lt g e)
     (le-or-lt i k)
 
-lies-place : {a b : List ℕ} {v : ℕ} → Runs a → Lies a b v → IsPlace v
-lies-place ra l = rw (l .is) at (ra .each (l .at) (l .in-a))
+lies-location : {a b : List ℕ} {v : ℕ} → Runs a → Lies a b v → IsLocation v
+lies-location ra l = rw (l .is) at (ra .each (l .at) (l .in-a))
 
 -- by index and by tile: t stands in a and lies in a tile of b
-lies-held : {a b : List ℕ} {v : ℕ} (t : Tile) → placeTile v ≡ t → Lies a b v → named placeTile a t && heldBy (named placeTile b) t ≡ true
+lies-held : {a b : List ℕ} {v : ℕ} (t : Tile) → locationTile v ≡ t → Lies a b v → named locationTile a t && heldBy (named locationTile b) t ≡ true
 lies-held {a = a} {b = b} t e l =
     let q = tiles b (l .holder) in
     let h : Holds q t = rw e at (l .holds) in
-    let stands : named placeTile a t ≡ true = names placeTile a (getD a (l .at) 0) t (getD-in a (l .at) 0 (l .in-a)) (ap placeTile (l .is) ∙ e) in
-    let above : heldBy (named placeTile b) t ≡ true =
-    any-below-in (suc (t .z)) (λ s. named placeTile b (ancestor t s)) (q .z) (omega (arith, h .above))
-    (names placeTile b (getD b (l .holder) 0) (ancestor t (q .z)) (getD-in b (l .holder) 0 (l .in-b)) (holder-is-ancestor h)) in
+    let stands : named locationTile a t ≡ true = names locationTile a (getD a (l .at) 0) t (getD-in a (l .at) 0 (l .in-a)) (ap locationTile (l .is) ∙ e) in
+    let above : heldBy (named locationTile b) t ≡ true =
+    any-below-in (suc (t .z)) (λ s. named locationTile b (ancestor t s)) (q .z) (omega (arith, h .above))
+    (names locationTile b (getD b (l .holder) 0) (ancestor t (q .z)) (getD-in b (l .holder) 0 (l .in-b)) (holder-is-ancestor h)) in
     rw (stands, above)
 
-held-lies : (a b : List ℕ) (t : Tile) → named placeTile a t && heldBy (named placeTile b) t ≡ true
+held-lies : (a b : List ℕ) (t : Tile) → named locationTile a t && heldBy (named locationTile b) t ≡ true
     → (k : ℕ) × (m : ℕ) × (k < length a) × (m < length b) × Holds (tiles b m) (tiles a k) × (tiles a k ≡ t)
 held-lies a b t e =
-    let p = and-parts (named placeTile a t) (heldBy (named placeTile b) t) e in
-    let u = named-by placeTile a t (p .0) in
+    let p = and-parts (named locationTile a t) (heldBy (named locationTile b) t) e in
+    let u = named-by locationTile a t (p .0) in
     let k = in-at a (u .1) in
-    let s = any-below-of (suc (t .z)) (λ s. named placeTile b (ancestor t s)) (p .1) in
-    let v = named-by placeTile b (ancestor t (s .0)) (s .2) in
+    let s = any-below-of (suc (t .z)) (λ s. named locationTile b (ancestor t s)) (p .1) in
+    let v = named-by locationTile b (ancestor t (s .0)) (s .2) in
     let m = in-at b (v .1) in
-    let is : tiles a (k .0) ≡ t = ap placeTile (k .2) ∙ u .2 in
-    let over : tiles b (m .0) ≡ ancestor t (s .0) = ap placeTile (m .2) ∙ v .2 in
+    let is : tiles a (k .0) ≡ t = ap locationTile (k .2) ∙ u .2 in
+    let over : tiles b (m .0) ≡ ancestor t (s .0) = ap locationTile (m .2) ∙ v .2 in
     (k .0, m .0, k .1, m .1, rw (is, over) (ancestor-holds t (s .0) (omega (arith, s .1))), is)
 
 module _ {a b out : List ℕ} {i j n : ℕ} (ra : Runs a) (rb : Runs b) (w : Walked a b out i j n) (room : length a + length b ≤ length out) where
   within : n ≤ length out
   within = omega (arith, w .room, w .one .within, w .other .within)
 
-  place : {v : ℕ} → List·Memᴰ v (take n out) → IsPlace v
-  place mem =
+  location : {v : ℕ} → List·Memᴰ v (take n out) → IsLocation v
+  location mem =
       let s = taken-at out n within mem in
-      rw (s .2) at (⊎-elim (λ l. lies-place ra l) (λ l. lies-place rb l) (w .right (s .0) (s .1)))
+      rw (s .2) at (⊎-elim (λ l. lies-location ra l) (λ l. lies-location rb l) (w .right (s .0) (s .1)))
 
-  written-named : {v : ℕ} (t : Tile) → placeTile v ≡ t → Written out n v → named placeTile (take n out) t ≡ true
+  written-named : {v : ℕ} (t : Tile) → locationTile v ≡ t → Written out n v → named locationTile (take n out) t ≡ true
   written-named t e x =
-      names placeTile (take n out) (getD out (x .at) 0) t (at-taken out n within (x .at) (x .below)) (ap placeTile (x .is) ∙ e)
+      names locationTile (take n out) (getD out (x .at) 0) t (at-taken out n within (x .at) (x .below)) (ap locationTile (x .is) ∙ e)
 
   pub ended : (length a ≤ i) ⊎ (length b ≤ j) → Common a b out n
   unfolding shared
   ended done = record {
     within = within;
-    places = λ v mem. let s = place mem in record { tile = placeTile v; on-map = s .of-map; number = s .again };
-    tiles = λ t. bool-ext (named placeTile (take n out) t) (shared (named placeTile a) (named placeTile b) t) (forth t) (back t);
+    locations = λ v mem. let s = location mem in record { tile = locationTile v; on-map = s .of-map; number = s .again };
+    tiles = λ t. bool-ext (named locationTile (take n out) t) (shared (named locationTile a) (named locationTile b) t) (forth t) (back t);
   }
     where
-      forth : (t : Tile) → named placeTile (take n out) t ≡ true → shared (named placeTile a) (named placeTile b) t ≡ true
+      forth : (t : Tile) → named locationTile (take n out) t ≡ true → shared (named locationTile a) (named locationTile b) t ≡ true
       forth t e =
-          let u = named-by placeTile (take n out) t e in
+          let u = named-by locationTile (take n out) t e in
           let s = taken-at out n within (u .1) in
           let v = getD out (s .0) 0 in
-          let is : placeTile v ≡ t = ap placeTile (s .2) ∙ u .2 in
+          let is : locationTile v ≡ t = ap locationTile (s .2) ∙ u .2 in
           ⊎-elim
           (λ l. rw (lies-held {a = a} {b = b} {v = v} t is l))
-          (λ l. rw (lies-held {a = b} {b = a} {v = v} t is l) (or-true (named placeTile a t && heldBy (named placeTile b) t)))
+          (λ l. rw (lies-held {a = b} {b = a} {v = v} t is l) (or-true (named locationTile a t && heldBy (named locationTile b) t)))
           (w .right (s .0) (s .1))
 
-      back : (t : Tile) → shared (named placeTile a) (named placeTile b) t ≡ true → named placeTile (take n out) t ≡ true
+      back : (t : Tile) → shared (named locationTile a) (named locationTile b) t ≡ true → named locationTile (take n out) t ≡ true
       back t e =
           ⊎-elim
           (λ h. let s = held-lies a b t h in written-named t (s .5) (all-kept w done (s .0) (s .1) (s .2) (s .3) (s .4)))

@@ -8,8 +8,8 @@ use native.Mathlib.Omega.{arith}
 use lib.ListN.{length, getD, length-append, length-map}
 use Rattle.bits.specs.Tests.{anyOf}
 use Rattle.constants.specs.Limits.{maxZoom}
-use Rattle.quadtree.specs.Numbers.{OfMap, placeTile}
-use Rattle.quadtree.specs.Places.{held-run, low-pos, tiles, Runs}
+use Rattle.quadtree.specs.Numbers.{OfMap, locationTile}
+use Rattle.quadtree.specs.Locations.{held-run, low-pos, tiles, Runs}
 use Rattle.tile.specs.declared.Tile.{Tile}
 use Rattle.tile_set.specs.Holds.{holds-both, holds-level, holds-trans, child-held}
 use Rattle.tile_set.specs.Set.{child}
@@ -161,8 +161,8 @@ count-map p f (a ∷ l) = ap (λ (n : ℕ). one (p (f a)) + n) (count-map p f l)
 
 -- tiles whose runs follow each other do not hold the same tile
 module _ (kept : List ℕ) (runs : Runs kept) where
-  held-once : (g : Tile) → OfMap g → countOf (λ t. holds t g) (map placeTile kept) ≤ 1
-  held-once g o = rw (count-map (λ t. holds t g) placeTile kept) (count-once (λ k. holds (placeTile k) g) kept two)
+  held-once : (g : Tile) → OfMap g → countOf (λ t. holds t g) (map locationTile kept) ≤ 1
+  held-once g o = rw (count-map (λ t. holds t g) locationTile kept) (count-once (λ k. holds (locationTile k) g) kept two)
     where
       two : (i j : ℕ) → i < j → j < length kept → holds (tiles kept i) g ≡ true → holds (tiles kept j) g ≡ true → ⊥
       two i j a b x y =
@@ -170,13 +170,14 @@ module _ (kept : List ℕ) (runs : Runs kept) where
           let t = held-run (holds-true (tiles kept j) g y) o in
           omega (arith, s .1, t .0, runs .rise i j a b, low-pos g)
 
-  held-length : (gone : List Tile) → ((g : Tile) → List·Memᴰ g gone → OfMap g) → heldBy (map placeTile kept) gone ≤ length gone
-  held-length [] each = omega (arith, held-none (map placeTile kept))
+  held-length : (gone : List Tile) → ((g : Tile) → List·Memᴰ g gone → OfMap g) → heldBy (map locationTile kept) gone ≤ length gone
+  held-length [] each = omega (arith, held-none (map locationTile kept))
   held-length (g ∷ gone) each =
-      omega (arith, held-more (map placeTile kept) g gone, held-once g (each g (List·Memᴰ·head refl)), held-length gone (λ h m. each h (List·Memᴰ·tail m)))
+      omega (arith, held-more (map locationTile kept) g gone, held-once g (each g (List·Memᴰ·head refl)), held-length gone (λ h m. each h (List·Memᴰ·tail m)))
 
   pub without-length : (gone : List ℕ) → Runs gone → length (without kept gone) ≤ length kept + 3 * (maxZoom * length gone)
   without-length gone others =
-      let h : heldBy (map placeTile kept) (map placeTile gone) ≤ length gone =
-      rw (length-map gone placeTile) at (held-length (map placeTile gone) (λ g m. let s = gone-at gone m in rw (s .2) (others .each (s .0) (s .1) .of-map))) in
-      omega (arith, all-length maxZoom (map placeTile gone) (map placeTile kept), mul-le-mul-left maxZoom h, length-map kept placeTile)
+      let h : heldBy (map locationTile kept) (map locationTile gone) ≤ length gone =
+      rw (length-map gone locationTile) at
+      (held-length (map locationTile gone) (λ g m. let s = gone-at gone m in rw (s .2) (others .each (s .0) (s .1) .of-map))) in
+      omega (arith, all-length maxZoom (map locationTile gone) (map locationTile kept), mul-le-mul-left maxZoom h, length-map kept locationTile)

@@ -5,7 +5,7 @@ use Prim.Native.Nat.{ℕ, zero, suc, _-_, _/_, _^_}
 use lib.Dec.{leb, eqb}
 use Rattle.bits.specs.Tests.{anyOf}
 use Rattle.constants.specs.Limits.{maxZoom}
-use Rattle.quadtree.specs.Numbers.{placeTile}
+use Rattle.quadtree.specs.Numbers.{locationTile}
 use Rattle.tile.specs.declared.Tile.{Tile}
 use Rattle.tile_set.specs.Set.{child}
 
@@ -28,13 +28,13 @@ unfoldable pub leftOfAll : ℕ → List Tile → List Tile → List Tile
 leftOfAll D gone [] = []
 leftOfAll D gone (t ∷ l) = leftOf (D - t .z) gone t ++ leftOfAll D gone l
 
--- of the tile at place k, and of its four children, when the tiles at the places `gone` are taken away
+-- of the tile at location k, and of its four children, when the tiles at the locations `gone` are taken away
 abbrev pub leftAt : List ℕ → ℕ → List Tile
-leftAt gone k = leftOf (maxZoom - placeTile k .z) (map placeTile gone) (placeTile k)
+leftAt gone k = leftOf (maxZoom - locationTile k .z) (map locationTile gone) (locationTile k)
 
 abbrev pub fourAt : List ℕ → ℕ → List Tile
-fourAt gone k = ofFour (leftOf (maxZoom - suc (placeTile k .z)) (map placeTile gone)) (placeTile k)
+fourAt gone k = ofFour (leftOf (maxZoom - suc (locationTile k .z)) (map locationTile gone)) (locationTile k)
 
--- of the tiles at the places `kept`
+-- of the tiles at the locations `kept`
 abbrev pub without : List ℕ → List ℕ → List Tile
-without kept gone = leftOfAll maxZoom (map placeTile gone) (map placeTile kept)
+without kept gone = leftOfAll maxZoom (map locationTile gone) (map locationTile kept)

@@ -1,4 +1,4 @@
--- The middle of `left`: the first i tiles are walked, and their places are written.
+-- The middle of `left`: the first i tiles are walked, and their locations are written.
 use mathlib.Core.Path.{_≡_, sym, ap, _∙_}
 use mathlib.Core.List.{List, [], _∷_, _++_, map, map-append, append-assoc, append-nil}
 use Prim.Native.Nat.{ℕ, _+_, _-_, _≤_, _<_}
@@ -7,8 +7,8 @@ use native.Mathlib.Omega.{arith}
 use lib.ListN.{length, take, getD}
 use lib.Seq.{sets, take-all, take-suc}
 use Rattle.constants.specs.Limits.{maxZoom}
-use Rattle.quadtree.specs.Numbers.{placeOf, placeTile}
-use Rattle.quadtree.specs.Places.{lowOf, startOf, tiles, Runs}
+use Rattle.quadtree.specs.Numbers.{locationOf, locationTile}
+use Rattle.quadtree.specs.Locations.{lowOf, startOf, tiles, Runs}
 use Rattle.tile.specs.declared.Tile.{Tile}
 use Rattle.difference.specs.Left.{leftOf, leftOfAll, leftAt, without}
 use Rattle.difference.specs.Walk.{Come, Wrote, Walked, behind-none, come-on, wrote-none, wrote-both}
@@ -28,8 +28,8 @@ left-last D gone (s ∷ l) t =
 without-next : (kept gone : List ℕ) (i : ℕ) → i < length kept
     → without (take (i + 1) kept) gone ≡ without (take i kept) gone ++ leftAt gone (getD kept i 0)
 without-next kept gone i h =
-    rw (add-one i, take-suc kept i 0 h, map-append placeTile (take i kept) (getD kept i 0 ∷ []))
-    (left-last maxZoom (map placeTile gone) (map placeTile (take i kept)) (tiles kept i))
+    rw (add-one i, take-suc kept i 0 h, map-append locationTile (take i kept) (getD kept i 0 ∷ []))
+    (left-last maxZoom (map locationTile gone) (map locationTile (take i kept)) (tiles kept i))
 
 module _ (kept gone before : List ℕ) where
   pub begun : Mid kept gone before before 0 0 0
@@ -44,7 +44,7 @@ module _ (kept gone before : List ℕ) where
       wrote = rw (without-next kept gone i h) (wrote-both (m .wrote) (w .wrote));
     }
 
-    pub ended : length kept ≤ i → (count ≡ length (without kept gone)) × (after ≡ sets before 0 (map placeOf (without kept gone)))
+    pub ended : length kept ≤ i → (count ≡ length (without kept gone)) × (after ≡ sets before 0 (map locationOf (without kept gone)))
     ended h =
         let w = rw (take-all i kept h) at (m .wrote) in
         (omega (arith, w .counted), w .written)

@@ -7,9 +7,10 @@ use native.Mathlib.Omega.{arith}
 use lib.ListN.{length, getD}
 use Rattle.bits.specs.Tests.{anyOf}
 use Rattle.constants.specs.Limits.{maxZoom}
-use Rattle.quadtree.specs.Laws.{place-tile}
-use Rattle.quadtree.specs.Numbers.{OfMap, placeOf, placeTile}
-use Rattle.quadtree.specs.Places.{lowOf, startOf, endOf, low-below, low-child, place-child, end-small, IsPlace, tile-place, tiles, Runs, valid-tile, map-tile}
+use Rattle.quadtree.specs.Laws.{location-tile}
+use Rattle.quadtree.specs.Numbers.{OfMap, locationOf, locationTile}
+use Rattle.quadtree.specs.Locations.{lowOf, startOf, endOf, low-below, low-child, location-child, end-small, IsLocation, tile-location}
+use Rattle.quadtree.specs.Locations.{tiles, Runs, valid-tile, map-tile}
 use Rattle.tile.specs.declared.Tile.{Tile}
 use Rattle.tile_set.specs.Holds.{valid-child}
 use Rattle.tile_set.specs.Set.{child}
@@ -38,7 +39,7 @@ module _ (t : Tile) (h : t .z < maxZoom) where
   begins : (i j : ℕ) → i < 2 → j < 2 → startOf (child t i j) ≡ startOf t + 2 * ((2 * j + i) * q)
   begins i j x y =
       let l : lowOf (child t i j) ≡ q = omega (arith, low-child t h i j, low-child t h 0 0) in
-      omega (arith, low-below t, low-child t h 0 0, rw l at (place-child t h i j x y))
+      omega (arith, low-below t, low-child t h 0 0, rw l at (location-child t h i j x y))
 
   ends : (i j : ℕ) → i < 2 → j < 2 → endOf (child t i j) ≡ startOf t + 2 * ((2 * j + i) * q) + 2 * q
   ends i j x y = omega (arith, begins i j x y, low-below (child t i j), low-child t h i j, low-child t h 0 0)
@@ -87,11 +88,11 @@ module _ (gone : List Tile) where
       pick false each = between-one t o
 
   all-between : (l : List ℕ) (a b : ℕ) → a ≤ b → Runs l → ((i : ℕ) → i < length l → (a ≤ startOf (tiles l i)) × (endOf (tiles l i) ≤ b))
-      → Between a b (leftOfAll maxZoom gone (map placeTile l))
+      → Between a b (leftOfAll maxZoom gone (map locationTile l))
   unfolding leftOfAll Between
   all-between [] a b h r f = h
   all-between (k ∷ l) a b h r f =
-      let t = placeTile k in
+      let t = locationTile k in
       let o = r .each 0 (omega arith) .of-map in
       let rest : Runs l = record { each = λ i x. r .each (suc i) (omega arith); rise = λ i j x y. r .rise (suc i) (suc j) (omega arith) (omega arith) } in
       let L = leftOf (maxZoom - t .z) gone t in
@@ -99,29 +100,29 @@ module _ (gone : List Tile) where
       between-both a (endOf t) b L _ (between-from a (startOf t) (endOf t) L (f 0 (omega arith) .0) here)
       (all-between l (endOf t) b (f 0 (omega arith) .1) rest (λ i x. (r .rise 0 (suc i) (omega arith) (omega arith), f (suc i) (omega arith) .1)))
 
-between-starts : (l : List Tile) (a b i : ℕ) → Between a b l → i < length (map placeOf l) → a ≤ startOf (tiles (map placeOf l) i)
+between-starts : (l : List Tile) (a b i : ℕ) → Between a b l → i < length (map locationOf l) → a ≤ startOf (tiles (map locationOf l) i)
 unfolding Between
 between-starts [] a b i s h = absurd (omega arith)
-between-starts (t ∷ l) a b zero s h = rw (place-tile t (s .0)) (s .1)
+between-starts (t ∷ l) a b zero s h = rw (location-tile t (s .0)) (s .1)
 between-starts (t ∷ l) a b (suc i) s h = omega (arith, s .1, between-starts l (endOf t) b i (s .2) (omega arith))
 
-between-runs : (l : List Tile) (a b : ℕ) → Between a b l → Runs (map placeOf l)
+between-runs : (l : List Tile) (a b : ℕ) → Between a b l → Runs (map locationOf l)
 unfolding Between
 between-runs l a b s = record { each = each l a b s; rise = rise l a b s }
   where
-    each : (l : List Tile) (a b : ℕ) → Between a b l → (i : ℕ) → i < length (map placeOf l) → IsPlace (getD (map placeOf l) i 0)
+    each : (l : List Tile) (a b : ℕ) → Between a b l → (i : ℕ) → i < length (map locationOf l) → IsLocation (getD (map locationOf l) i 0)
     each [] a b s i h = absurd (omega arith)
-    each (t ∷ l) a b s zero h = tile-place t (s .0)
+    each (t ∷ l) a b s zero h = tile-location t (s .0)
     each (t ∷ l) a b s (suc i) h = each l (endOf t) b (s .2) i (omega arith)
 
-    rise : (l : List Tile) (a b : ℕ) → Between a b l → (i j : ℕ) → i < j → j < length (map placeOf l)
-        → endOf (tiles (map placeOf l) i) ≤ startOf (tiles (map placeOf l) j)
+    rise : (l : List Tile) (a b : ℕ) → Between a b l → (i j : ℕ) → i < j → j < length (map locationOf l)
+        → endOf (tiles (map locationOf l) i) ≤ startOf (tiles (map locationOf l) j)
     rise [] a b s i j h k = absurd (omega arith)
     rise (t ∷ l) a b s i zero h k = absurd (omega arith)
-    rise (t ∷ l) a b s zero (suc j) h k = rw (place-tile t (s .0)) (between-starts l (endOf t) b j (s .2) (omega arith))
+    rise (t ∷ l) a b s zero (suc j) h k = rw (location-tile t (s .0)) (between-starts l (endOf t) b j (s .2) (omega arith))
     rise (t ∷ l) a b s (suc i) (suc j) h k = rise l (endOf t) b (s .2) i j (omega arith) (omega arith)
 
-pub without-runs : (kept gone : List ℕ) → Runs kept → Runs (map placeOf (without kept gone))
+pub without-runs : (kept gone : List ℕ) → Runs kept → Runs (map locationOf (without kept gone))
 without-runs kept gone r =
     between-runs (without kept gone) 0 (2 ^ 63)
-    (all-between (map placeTile gone) kept 0 (2 ^ 63) (omega arith) r (λ i h. (omega arith, omega (arith, end-small (tiles kept i) (r .each i h .of-map)))))
+    (all-between (map locationTile gone) kept 0 (2 ^ 63) (omega arith) r (λ i h. (omega arith, omega (arith, end-small (tiles kept i) (r .each i h .of-map)))))

@@ -8,10 +8,10 @@ use native.Mathlib.Omega.{arith}
 use lib.ListN.{length}
 use Rattle.bits.specs.Tests.{in-map, into-map, getD-in}
 use Rattle.constants.specs.Limits.{maxZoom}
-use Rattle.quadtree.specs.Laws.{place-tile}
-use Rattle.quadtree.specs.Numbers.{OfMap, placeOf, placeTile}
+use Rattle.quadtree.specs.Laws.{location-tile}
+use Rattle.quadtree.specs.Numbers.{OfMap, locationOf, locationTile}
 use Rattle.sort.specs.At.{in-at}
-use Rattle.quadtree.specs.Places.{lowOf, startOf, endOf, low-pos, low-below, held-run, lies, Lie, holding, held, before, after, tiles, Runs}
+use Rattle.quadtree.specs.Locations.{lowOf, startOf, endOf, low-pos, low-below, held-run, lies, Lie, holding, held, before, after, tiles, Runs}
 use Rattle.tile.specs.declared.Tile.{Tile}
 use Rattle.tile_set.specs.Holds.{Holds, holds-refl, holds-trans, holds-level}
 use Rattle.difference.specs.Left.{ofFour, leftOf}
@@ -38,37 +38,37 @@ longer-holds s t m n a b h = pick (lies s t m n)
     pick (holding k) = k
     pick (held k) =
         let r = held-run k m in
-        let e : placeOf t ≡ placeOf s = omega (arith, r .0, r .1, low-below s, low-below t) in
-        let f : t ≡ s = sym (place-tile t n) ∙ (ap placeTile e ∙ place-tile s m) in
+        let e : locationOf t ≡ locationOf s = omega (arith, r .0, r .1, low-below s, low-below t) in
+        let f : t ≡ s = sym (location-tile t n) ∙ (ap locationTile e ∙ location-tile s m) in
         subst (λ (u : Tile). Holds s u) (sym f) (holds-refl s)
     pick (before k) = absurd (omega arith)
     pick (after k) = absurd (omega arith)
 
-pub gone-at : (l : List ℕ) {g : Tile} → List·Memᴰ g (map placeTile l) → (i : ℕ) × (i < length l) × (g ≡ tiles l i)
+pub gone-at : (l : List ℕ) {g : Tile} → List·Memᴰ g (map locationTile l) → (i : ℕ) × (i < length l) × (g ≡ tiles l i)
 gone-at l m =
-    let s = in-map placeTile l m in
+    let s = in-map locationTile l m in
     let k = in-at l (s .1) in
-    (k .0, k .1, s .2 ∙ ap placeTile (sym (k .2)))
+    (k .0, k .1, s .2 ∙ ap locationTile (sym (k .2)))
 
-pub at-gone : (l : List ℕ) (i : ℕ) → i < length l → List·Memᴰ (tiles l i) (map placeTile l)
-at-gone l i h = into-map placeTile l (getD-in l i 0 h)
+pub at-gone : (l : List ℕ) (i : ℕ) → i < length l → List·Memᴰ (tiles l i) (map locationTile l)
+at-gone l i h = into-map locationTile l (getD-in l i 0 h)
 
 module _ (l : List ℕ) (runs : Runs l) (t : Tile) (o : OfMap t) (d : ℕ) where
   of-map : (i : ℕ) → i < length l → OfMap (tiles l i)
   of-map i h = runs .each i h .of-map
 
-  none-touch : ((i : ℕ) → i < length l → Apart (tiles l i) t) → leftOf d (map placeTile l) t ≡ t ∷ []
+  none-touch : ((i : ℕ) → i < length l → Apart (tiles l i) t) → leftOf d (map locationTile l) t ≡ t ∷ []
   none-touch f =
-      left-kept (map placeTile l) t d
+      left-kept (map locationTile l) t d
       (λ g m h. let s = gone-at l m in not-held o (f (s .0) (s .1)) (rw (s .2) at h))
       (λ g m h. let s = gone-at l m in not-held (of-map (s .0) (s .1)) (swapped (tiles l (s .0)) t (f (s .0) (s .1))) (rw (s .2) at h))
 
   module _ (next : ℕ) (b : Behind l (startOf t) next) where
-    pub past-all : next ≡ length l → leftOf d (map placeTile l) t ≡ t ∷ []
+    pub past-all : next ≡ length l → leftOf d (map locationTile l) t ≡ t ∷ []
     past-all e = none-touch (λ i h. inl (b .each i (omega arith)))
 
     module _ (h : next < length l) where
-      pub before-next : endOf t ≤ startOf (tiles l next) → leftOf d (map placeTile l) t ≡ t ∷ []
+      pub before-next : endOf t ≤ startOf (tiles l next) → leftOf d (map locationTile l) t ≡ t ∷ []
       before-next k = none-touch (λ i a. pick i a (decLt i next) (decLt next i))
         where
           pick : (i : ℕ) → i < length l → Dec (i < next) → Dec (next < i) → Apart (tiles l i) t
@@ -77,15 +77,15 @@ module _ (l : List ℕ) (runs : Runs l) (t : Tile) (o : OfMap t) (d : ℕ) where
           pick i a (no p) (no q) = let e : i ≡ next = omega arith in rw e (inr k)
 
       module _ (x : startOf (tiles l next) < endOf t) (y : startOf t < endOf (tiles l next)) where
-        pub in-next : lowOf t ≤ lowOf (tiles l next) → leftOf d (map placeTile l) t ≡ []
-        in-next k = left-dropped (map placeTile l) t d (tiles l next) (at-gone l next h) (longer-holds (tiles l next) t (of-map next h) o x y k)
+        pub in-next : lowOf t ≤ lowOf (tiles l next) → leftOf d (map locationTile l) t ≡ []
+        in-next k = left-dropped (map locationTile l) t d (tiles l next) (at-gone l next h) (longer-holds (tiles l next) t (of-map next h) o x y k)
 
         module _ (k : lowOf (tiles l next) < lowOf t) where
           holds-next : Holds t (tiles l next)
           holds-next = longer-holds t (tiles l next) o (of-map next h) y x (omega arith)
 
           -- a tile that held t would meet the next one
-          bare : (g : Tile) → List·Memᴰ g (map placeTile l) → Holds g t → ⊥
+          bare : (g : Tile) → List·Memᴰ g (map locationTile l) → Holds g t → ⊥
           bare g m a = let s = gone-at l m in pick (s .0) (s .1) (rw (s .2) at a) (decLt (s .0) next) (decLt next (s .0))
             where
               pick : (i : ℕ) → i < length l → Holds (tiles l i) t → Dec (i < next) → Dec (next < i) → ⊥
@@ -96,8 +96,8 @@ module _ (l : List ℕ) (runs : Runs l) (t : Tile) (o : OfMap t) (d : ℕ) where
                   let r = held-run (subst (λ (n : ℕ). Holds (tiles l n) t) e v) o in
                   omega (arith, r .0, r .1, low-below (tiles l next), low-below t)
 
-          pub over-next : leftOf (suc d) (map placeTile l) t ≡ ofFour (leftOf d (map placeTile l)) t
-          over-next = left-four (map placeTile l) t d (tiles l next) (at-gone l next h) holds-next bare
+          pub over-next : leftOf (suc d) (map locationTile l) t ≡ ofFour (leftOf d (map locationTile l)) t
+          over-next = left-four (map locationTile l) t d (tiles l next) (at-gone l next h) holds-next bare
 
           pub not-deepest : t .z < maxZoom
           not-deepest = pick (decLt (t .z) (tiles l next .z))

@@ -9,8 +9,8 @@ use native.Mathlib.Omega.{arith}
 use lib.ListN.{length, drop, set, length-append, length-map}
 use lib.Seq.{sets, sets-eq, length-sets}
 use Rattle.constants.specs.Limits.{maxZoom}
-use Rattle.quadtree.specs.Numbers.{placeOf, placeTile}
-use Rattle.quadtree.specs.Places.{lowOf, startOf, endOf, IsPlace, tiles, Runs}
+use Rattle.quadtree.specs.Numbers.{locationOf, locationTile}
+use Rattle.quadtree.specs.Locations.{lowOf, startOf, endOf, IsLocation, tiles, Runs}
 use Rattle.tile.specs.declared.Tile.{Tile}
 
 -- the tiles before `next` of those that are taken away end at the number `to` or before it
@@ -23,23 +23,23 @@ pub record Come (gone : List ℕ) (to next count : ℕ) : Type 0 where
   pub behind : Behind gone to next
   pub few : count ≤ to
 
--- the places of the tiles `left` are written from `count` on, as far as there is room, and are counted
+-- the locations of the tiles `left` are written from `count` on, as far as there is room, and are counted
 pub record Wrote (left : List Tile) (count r : ℕ) (before after : List ℕ) : Type 0 where
   pub counted : r ≡ count + length left
-  pub written : after ≡ sets before count (map placeOf left)
+  pub written : after ≡ sets before count (map locationOf left)
 
--- the walk stands at the start of the tile at place k. Half the tile's run is `low` long
+-- the walk stands at the start of the tile at location k. Half the tile's run is `low` long
 pub record AtTile (gone : List ℕ) (k low next count : ℕ) : Type 0 where
-  pub place : IsPlace k
-  pub half : low ≡ lowOf (placeTile k)
+  pub location : IsLocation k
+  pub half : low ≡ lowOf (locationTile k)
   pub runs : Runs gone
   pub come : Come gone (k - low) next count
 
--- the walk stands at the start of the tile at place k, which has children. Half a child's run is `quarter` long
+-- the walk stands at the start of the tile at location k, which has children. Half a child's run is `quarter` long
 pub record AtFour (gone : List ℕ) (k quarter next count : ℕ) : Type 0 where
-  pub place : IsPlace k
-  pub higher : placeTile k .z < maxZoom
-  pub half : 4 * quarter ≡ lowOf (placeTile k)
+  pub location : IsLocation k
+  pub higher : locationTile k .z < maxZoom
+  pub half : 4 * quarter ≡ lowOf (locationTile k)
   pub runs : Runs gone
   pub come : Come gone (k - 4 * quarter) next count
 
@@ -80,18 +80,18 @@ pub sets-front : (l vs : List ℕ) → length vs ≤ length l → sets l 0 vs �
 sets-front l vs h = let e : 0 + length vs ≡ length vs = omega arith in rw e at (sets-eq vs l 0 (omega arith))
 
 pub wrote-length : {left : List Tile} {count r : ℕ} {before after : List ℕ} → Wrote left count r before after → length after ≡ length before
-wrote-length {left} {count} {r} {before} w = ap length (w .written) ∙ length-sets before count (map placeOf left)
+wrote-length {left} {count} {r} {before} w = ap length (w .written) ∙ length-sets before count (map locationOf left)
 
 pub wrote-none : (count : ℕ) (l : List ℕ) → Wrote [] count count l l
 wrote-none count l = record { counted = omega arith; written = refl }
 
-pub wrote-one : (t : Tile) (count : ℕ) (l : List ℕ) → Wrote (t ∷ []) count (count + 1) l (set l count (placeOf t))
+pub wrote-one : (t : Tile) (count : ℕ) (l : List ℕ) → Wrote (t ∷ []) count (count + 1) l (set l count (locationOf t))
 wrote-one t count l = record { counted = omega arith; written = refl }
 
 pub wrote-both : {a b : List Tile} {i j k : ℕ} {l m n : List ℕ} → Wrote a i j l m → Wrote b j k m n → Wrote (a ++ b) i k l n
 wrote-both {a} {b} {i} {j} {k} {l} {m} {n} v w = record {
   counted = omega (arith, v .counted, w .counted, length-append a b);
   written =
-      let e : j ≡ i + length (map placeOf a) = v .counted ∙ ap (λ (c : ℕ). i + c) (sym (length-map a placeOf)) in
-      rw (map-append placeOf a b, sets-append l i (map placeOf a) (map placeOf b), ← e, ← v .written) (w .written);
+      let e : j ≡ i + length (map locationOf a) = v .counted ∙ ap (λ (c : ℕ). i + c) (sym (length-map a locationOf)) in
+      rw (map-append locationOf a b, sets-append l i (map locationOf a) (map locationOf b), ← e, ← v .written) (w .written);
 }

@@ -1,11 +1,11 @@
-// What is left of the tiles of one settled list when those of another are taken away, by their places along the quadtree.
+// What is left of the tiles of one settled list when those of another are taken away, by their locations along the quadtree.
 ghost use mathlib.Core.Path.{_≡_};
 ghost use mathlib.Core.List.{map};
 ghost use Prim.Native.Nat.{_+_, _*_, _^_, _≤_, _<_};
 ghost use lib.ListN.{length, set};
 ghost use lib.Seq.{sets};
-ghost use Rattle.quadtree.specs.Numbers.{placeOf};
-ghost use Rattle.quadtree.specs.Places.{endOf, tiles, Runs};
+ghost use Rattle.quadtree.specs.Numbers.{locationOf};
+ghost use Rattle.quadtree.specs.Locations.{endOf, tiles, Runs};
 ghost use Rattle.difference.specs.Left.{leftAt, fourAt, without};
 ghost use Rattle.difference.specs.Walk.{Behind, AtTile, AtFour, Clear, Walked};
 
@@ -15,11 +15,11 @@ struct Mark {
     count: usize,
 }
 
-// The places of what is left are written as far as there is room. With no room the answer is how many there are.
+// The locations of what is left are written as far as there is room. With no room the answer is how many there are.
 pub fn left(kept: &[u64], gone: &[u64], out: &mut [u64]) -> usize
     requires { ⌜ Runs (now kept) × Runs (now gone) ⌝ }
     ensures { λ r. ⌜ r ≡ length (without (now (kept .entry)) (now (gone .entry))) ⌝ }
-    ensures { λ r. ⌜ now (out .exit) ≡ sets (now (out .entry)) 0 (map placeOf (without (now (kept .entry)) (now (gone .entry)))) ⌝ }
+    ensures { λ r. ⌜ now (out .exit) ≡ sets (now (out .entry)) 0 (map locationOf (without (now (kept .entry)) (now (gone .entry)))) ⌝ }
 {
     let mut at = Mark { next: 0, count: 0 };
     let mut i = 0;

@@ -1,4 +1,4 @@
--- What the pass leaves of a list of quads.
+-- What the pass leaves of a list of Morton codes.
 use mathlib.Core.Bool.{Bool, cond, _&&_}
 use mathlib.Core.List.{List, [], _∷_}
 use Prim.Native.Nat.{ℕ, zero, suc, _+_, _/_, _%_, _^_}
@@ -6,7 +6,7 @@ use lib.Dec.{leb, ltb, eqb}
 use lib.ListN.{length, getD}
 use Rattle.constants.specs.Limits.{maxZoom}
 
--- the list begins with the four quads of one family, the first of them from `from` on. Quads rise, so the first and the fourth decide.
+-- the list begins with the four Morton codes of one family, the first of them from `from` on. Quads rise, so the first and the fourth decide.
 unfoldable pub fourFrom : ℕ → List ℕ → Bool
 fourFrom from l = leb 4 (length l) && (leb from (getD l 0 0) && (eqb (getD l 0 0 % 4) 0 && eqb (getD l 0 0 + 3) (getD l 3 0)))
 
@@ -16,10 +16,10 @@ joinAfter from skip [] = []
 joinAfter from (suc skip) (q ∷ l) = joinAfter from skip l
 joinAfter from zero (q ∷ l) = cond (fourFrom from (q ∷ l)) (q / 4 ∷ joinAfter from 3 l) (q ∷ joinAfter from 0 l)
 
--- each family, the first of its quads from `from` on, is its parent
+-- each family, the first of its Morton codes from `from` on, is its parent
 abbrev pub joinOf : ℕ → List ℕ → List ℕ
 joinOf from l = joinAfter from 0 l
 
--- the least quad of a zoom above m, or of one that there is not
-unfoldable pub firstQuad : ℕ → ℕ
-firstQuad m = 4 ^ (cond (ltb m maxZoom) m maxZoom + 1)
+-- the least Morton code of a zoom above m, or of one that there is not
+unfoldable pub firstMorton : ℕ → ℕ
+firstMorton m = 4 ^ (cond (ltb m maxZoom) m maxZoom + 1)

@@ -1,4 +1,4 @@
--- What a pass over quads leaves: the quads of the merged set, and whether any tile joined.
+-- What a pass over Morton codes leaves: the Morton codes of the merged set, and whether any tile joined.
 use mathlib.Core.Path.{_≡_, sym, ap, _∙_}
 use mathlib.Core.Bool.{Bool, true, false}
 use mathlib.Core.List.{List, _++_}
@@ -8,7 +8,7 @@ use lib.ListN.{length, take, length-append}
 use lib.Seq.{take-append-le}
 use Rattle.constants.specs.Limits.{maxZoom}
 use Rattle.quadtree.specs.Lists.{TileNumbers}
-use Rattle.quadtree.specs.Numbers.{quadOf, quadTile}
+use Rattle.quadtree.specs.Numbers.{mortonOf, mortonTile}
 use Rattle.sort.specs.Sort.{sortN}
 use Rattle.tile.specs.declared.Tile.{Tile}
 use Rattle.tile_list.specs.Finish.{Listed}
@@ -19,24 +19,24 @@ use Rattle.families.specs.declared.Joined.{Joined}
 
 pub record Passed (m : ℕ) (before after : List ℕ) (r : Joined) : Type 0 where
   pub within : r .count ≤ length after
-  pub numbers : TileNumbers quadOf (take (r .count) after)
-  pub set : named quadTile (take (r .count) after) ≡ merged m (named quadTile before)
-  pub still : r .changed ≡ false → (t : Tile) → joins m (named quadTile before) t ≡ false
-  pub moved : r .changed ≡ true → (t : Tile) × (joins m (named quadTile before) t ≡ true)
+  pub numbers : TileNumbers mortonOf (take (r .count) after)
+  pub set : named mortonTile (take (r .count) after) ≡ merged m (named mortonTile before)
+  pub still : r .changed ≡ false → (t : Tile) → joins m (named mortonTile before) t ≡ false
+  pub moved : r .changed ≡ true → (t : Tile) × (joins m (named mortonTile before) t ≡ true)
 
 -- the same with the merged set as a list
 pub record Merges (m : ℕ) (before after : List ℕ) (r : Joined) : Type 0 where
-  pub listed : Listed (merged m (named quadTile before)) after (r .count)
-  pub still : r .changed ≡ false → (t : Tile) → joins m (named quadTile before) t ≡ false
-  pub moved : r .changed ≡ true → (t : Tile) × (joins m (named quadTile before) t ≡ true)
+  pub listed : Listed (merged m (named mortonTile before)) after (r .count)
+  pub still : r .changed ≡ false → (t : Tile) → joins m (named mortonTile before) t ≡ false
+  pub moved : r .changed ≡ true → (t : Tile) × (joins m (named mortonTile before) t ≡ true)
 
 -- and what passes leave until nothing changes
 pub record Still (m : ℕ) (before after : List ℕ) (count : ℕ) : Type 0 where
   pub within : count ≤ length after
-  pub numbers : TileNumbers quadOf (take count after)
-  pub set : named quadTile (take count after) ≡ passes maxZoom m (named quadTile before)
+  pub numbers : TileNumbers mortonOf (take count after)
+  pub set : named mortonTile (take count after) ≡ passes maxZoom m (named mortonTile before)
 
--- a pass over the front part of a memory, and over quads that were put in order before
+-- a pass over the front part of a memory, and over Morton codes that were put in order before
 pub part-passed : {m : ℕ} {before part : List ℕ} {r : Joined} (rest : List ℕ) → Passed m before part r → Passed m before (part ++ rest) r
 part-passed {m} {before} {part} {r} rest p =
     let e : take (r .count) (part ++ rest) ≡ take (r .count) part = take-append-le (r .count) part rest (p .within) in
@@ -50,7 +50,7 @@ part-passed {m} {before} {part} {r} rest p =
 
 pub sort-passed : {m : ℕ} {after : List ℕ} {r : Joined} (before : List ℕ) → Passed m (sortN before) after r → Passed m before after r
 sort-passed {m} {after} {r} before p =
-    let e : named quadTile (sortN before) ≡ named quadTile before = sort-named quadTile before in
+    let e : named mortonTile (sortN before) ≡ named mortonTile before = sort-named mortonTile before in
     record {
       within = p .within;
       numbers = p .numbers;
@@ -59,9 +59,9 @@ sort-passed {m} {after} {r} before p =
       moved = λ f. let s = p .moved f in (s .0, ap (λ (S : Tile → Bool). joins m S (s .0)) (sym e) ∙ s .1);
     }
 
--- the quads that a pass left, as a list
+-- the Morton codes that a pass left, as a list
 pub passed-merges : {m count : ℕ} {after memory : List ℕ} {r : Joined} (before : List ℕ) → Passed m (sortN before) after r
-    → Listed (named quadTile (take (r .count) after)) memory count → Merges m before memory (record { count = count; changed = r .changed })
+    → Listed (named mortonTile (take (r .count) after)) memory count → Merges m before memory (record { count = count; changed = r .changed })
 passed-merges {m} {count} {after} {memory} {r} before p l =
     let q = sort-passed before p in
     record { listed = rw (q .set) at l; still = q .still; moved = q .moved }

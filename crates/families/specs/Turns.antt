@@ -7,7 +7,7 @@ use native.Mathlib.Omega.{arith}
 use lib.ListN.{length, take}
 use Rattle.constants.specs.Limits.{maxZoom}
 use Rattle.quadtree.specs.Lists.{TileNumbers}
-use Rattle.quadtree.specs.Numbers.{quadOf, quadTile}
+use Rattle.quadtree.specs.Numbers.{mortonOf, mortonTile}
 use Rattle.tile.specs.declared.Tile.{Tile}
 use Rattle.tile_list.specs.List.{named}
 use Rattle.tile_set.specs.Merged.{merged-same}
@@ -28,27 +28,28 @@ still-later (suc k) n m S e =
 
 module _ (m : ℕ) (before : List ℕ) where
   abbrev S : Tile → Bool
-  S = named quadTile before
+  S = named mortonTile before
 
-  -- the first `left` quads are those of the set after as many passes as zooms are gone
-  pub record Turn (quads : List ℕ) (left zooms : ℕ) : Type 0 where
-    pub within : left ≤ length quads
-    pub numbers : TileNumbers quadOf (take left quads)
+  -- the first `left` Morton codes are those of the set after as many passes as zooms are gone
+  pub record Turn (codes : List ℕ) (left zooms : ℕ) : Type 0 where
+    pub within : left ≤ length codes
+    pub numbers : TileNumbers mortonOf (take left codes)
     pub few : zooms ≤ maxZoom
-    pub set : named quadTile (take left quads) ≡ passes (maxZoom - zooms) m S
+    pub set : named mortonTile (take left codes) ≡ passes (maxZoom - zooms) m S
 
-  pub first-turn : (quads : List ℕ) (left : ℕ) → left ≤ length quads → TileNumbers quadOf (take left quads) → take left quads ≡ before → Turn quads left maxZoom
+  pub first-turn : (codes : List ℕ) (left : ℕ) → left ≤ length codes → TileNumbers mortonOf (take left codes) → take left codes ≡ before
+      → Turn codes left maxZoom
   unfolding passes
-  first-turn quads left h n e =
+  first-turn codes left h n e =
       let f : maxZoom - maxZoom ≡ 0 = omega arith in
-      record { within = h; numbers = n; few = omega arith; set = rw f (ap (named quadTile) e) }
+      record { within = h; numbers = n; few = omega arith; set = rw f (ap (named mortonTile) e) }
 
-  module _ (quads : List ℕ) (left zooms : ℕ) (T : Turn quads left zooms) (h : 0 < zooms) (part rest : List ℕ) (r : Joined)
-      (p : Passed m (take left quads) part r) where
-    more : Passed m (take left quads) (part ++ rest) r
+  module _ (codes : List ℕ) (left zooms : ℕ) (T : Turn codes left zooms) (h : 0 < zooms) (part rest : List ℕ) (r : Joined)
+      (p : Passed m (take left codes) part r) where
+    more : Passed m (take left codes) (part ++ rest) r
     more = part-passed rest p
 
-    next : named quadTile (take (r .count) (part ++ rest)) ≡ passes (maxZoom - (zooms - 1)) m S
+    next : named mortonTile (take (r .count) (part ++ rest)) ≡ passes (maxZoom - (zooms - 1)) m S
     next =
         let e : suc (maxZoom - zooms) ≡ maxZoom - (zooms - 1) = omega (arith, T .few) in
         more .set ∙ (ap (merged m) (T .set) ∙ (sym (pass-more (maxZoom - zooms) m S) ∙ ap (λ (i : ℕ). passes i m S) e))
@@ -71,7 +72,7 @@ module _ (m : ℕ) (before : List ℕ) where
             let b : zooms + n ≡ maxZoom = omega (arith, T .few) in
             ap (λ (i : ℕ). passes i m S) a ∙ (still-later 1 n m S same ∙ (sym (still-later zooms n m S same) ∙ ap (λ (i : ℕ). passes i m S) b))
 
-  pub turned-all : (quads : List ℕ) (left zooms : ℕ) → Turn quads left zooms → zooms ≤ 0 → Still m before quads left
-  turned-all quads left zooms T h =
+  pub turned-all : (codes : List ℕ) (left zooms : ℕ) → Turn codes left zooms → zooms ≤ 0 → Still m before codes left
+  turned-all codes left zooms T h =
       let e : maxZoom - zooms ≡ maxZoom = omega arith in
       record { within = T .within; numbers = T .numbers; set = T .set ∙ ap (λ (i : ℕ). passes i m S) e }

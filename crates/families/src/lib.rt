@@ -1,12 +1,13 @@
-// One pass over sorted quads: four siblings that stand together become their parent.
+// One pass over sorted Morton codes: four siblings that stand together become their parent.
 use constants::MAX_ZOOM;
+use quadtree::Key;
 ghost use mathlib.Core.Path.{_≡_};
 ghost use Prim.Native.Nat.{_+_, _%_, _<_, _≤_};
 ghost use lib.ListN.{length, take, drop};
-ghost use Rattle.families.specs.Join.{fourFrom, joinOf, firstQuad};
+ghost use Rattle.families.specs.Join.{fourFrom, joinOf, firstMorton};
 ghost use Rattle.families.specs.Pass.{Passed, Merges, Still};
 ghost use Rattle.quadtree.specs.Lists.{TileNumbers};
-ghost use Rattle.quadtree.specs.Numbers.{quadOf};
+ghost use Rattle.quadtree.specs.Numbers.{mortonOf};
 ghost use Rattle.sort.specs.Sort.{By};
 
 // What a pass leaves at the front, and whether it joined anything.
@@ -15,44 +16,44 @@ pub struct Joined {
     pub changed: bool,
 }
 
-// One pass of merging at minimum zoom m, from the quads of a set to the merged set as a list.
-pub fn merged(quads: &mut [u64], out: &mut [u64], m: u8) -> Joined
-    requires { ⌜ TileNumbers quadOf (now quads) × (length (now quads) ≡ length (now out)) ⌝ }
-    ensures { λ r. ⌜ Merges m (now (quads .entry)) (now (out .exit)) r ⌝ }
+// One pass of merging at minimum zoom m, from the Morton codes of a set to the merged set as a list.
+pub fn merged(codes: &mut [u64], out: &mut [u64], m: u8) -> Joined
+    requires { ⌜ TileNumbers mortonOf (now codes) × (length (now codes) ≡ length (now out)) ⌝ }
+    ensures { λ r. ⌜ Merges m (now (codes .entry)) (now (out .exit)) r ⌝ }
 {
-    sort::sort_into(quads, out);
+    sort::sort_into(codes, out);
     let joined = pass(out, m);
     let left = joined.count;
-    let count = tile_list::finish(out, left, quads, false);
+    let count = tile_list::finish(out, left, codes, Key::Morton);
     Joined {
         count,
         changed: joined.changed,
     }
 }
 
-// One pass over quads in order.
-pub fn pass(quads: &mut [u64], m: u8) -> Joined
-    requires { ⌜ TileNumbers quadOf (now quads) × By (λ n. n) (now quads) ⌝ }
-    ensures { λ r. ⌜ Passed m (now (quads .entry)) (now (quads .exit)) r ⌝ }
+// One pass over Morton codes in order.
+pub fn pass(codes: &mut [u64], m: u8) -> Joined
+    requires { ⌜ TileNumbers mortonOf (now codes) × By (λ n. n) (now codes) ⌝ }
+    ensures { λ r. ⌜ Passed m (now (codes .entry)) (now (codes .exit)) r ⌝ }
 {
-    let once = sort::once(quads);
-    let count = join(&mut quads[..once], first_quad(m));
+    let once = sort::once(codes);
+    let count = join(&mut codes[..once], first_morton(m));
     Joined {
         count,
         changed: count < once,
     }
 }
 
-// Passes of merging over the first `count` quads until nothing changes. Each pass takes a zoom, so there are no more than MAX_ZOOM.
-pub fn passes(quads: &mut [u64], count: usize, scratch: &mut [u64], m: u8) -> usize
-    requires { ⌜ (count ≤ length (now quads)) × (length (now quads) ≡ length (now scratch)) ⌝ }
-    requires { ⌜ TileNumbers quadOf (take count (now quads)) ⌝ }
-    ensures { λ r. ⌜ Still m (take count (now (quads .entry))) (now (quads .exit)) r ⌝ }
+// Passes of merging over the first `count` Morton codes until nothing changes. Each pass takes a zoom, so there are no more than MAX_ZOOM.
+pub fn passes(codes: &mut [u64], count: usize, scratch: &mut [u64], m: u8) -> usize
+    requires { ⌜ (count ≤ length (now codes)) × (length (now codes) ≡ length (now scratch)) ⌝ }
+    requires { ⌜ TileNumbers mortonOf (take count (now codes)) ⌝ }
+    ensures { λ r. ⌜ Still m (take count (now (codes .entry))) (now (codes .exit)) r ⌝ }
 {
     let mut left = count;
     let mut zooms = MAX_ZOOM;
     while zooms > 0 {
-        let joined = sorted_pass(&mut quads[..left], &mut scratch[..left], m);
+        let joined = sorted_pass(&mut codes[..left], &mut scratch[..left], m);
         left = joined.count;
         if !joined.changed {
             return left;
@@ -62,18 +63,18 @@ pub fn passes(quads: &mut [u64], count: usize, scratch: &mut [u64], m: u8) -> us
     left
 }
 
-// One pass over quads in any order.
-fn sorted_pass(quads: &mut [u64], scratch: &mut [u64], m: u8) -> Joined
-    requires { ⌜ TileNumbers quadOf (now quads) × (length (now quads) ≡ length (now scratch)) ⌝ }
-    ensures { λ r. ⌜ Passed m (now (quads .entry)) (now (quads .exit)) r ⌝ }
+// One pass over Morton codes in any order.
+fn sorted_pass(codes: &mut [u64], scratch: &mut [u64], m: u8) -> Joined
+    requires { ⌜ TileNumbers mortonOf (now codes) × (length (now codes) ≡ length (now scratch)) ⌝ }
+    ensures { λ r. ⌜ Passed m (now (codes .entry)) (now (codes .exit)) r ⌝ }
 {
-    sort::sort(quads, scratch);
-    pass(quads, m)
+    sort::sort(codes, scratch);
+    pass(codes, m)
 }
 
-// The least quad of a zoom above m.
-fn first_quad(m: u8) -> u64
-    ensures { λ r. ⌜ r ≡ firstQuad m ⌝ }
+// The least Morton code of a zoom above m.
+fn first_morton(m: u8) -> u64
+    ensures { λ r. ⌜ r ≡ firstMorton m ⌝ }
 {
     if m < MAX_ZOOM {
         return bits::wide_pow2(2 * (m + 1));
@@ -81,19 +82,19 @@ fn first_quad(m: u8) -> u64
     bits::wide_pow2(2 * (MAX_ZOOM + 1))
 }
 
-// Families of quads from `from` on are joined. What is left stands at the front, and the answer says how many numbers it is.
-fn join(quads: &mut [u64], from: u64) -> usize
-    ensures { λ r. ⌜ (r ≤ length (now (quads .exit))) × (take r (now (quads .exit)) ≡ joinOf from (now (quads .entry))) ⌝ }
+// Families of Morton codes from `from` on are joined. What is left stands at the front, and the answer says how many numbers it is.
+fn join(codes: &mut [u64], from: u64) -> usize
+    ensures { λ r. ⌜ (r ≤ length (now (codes .exit))) × (take r (now (codes .exit)) ≡ joinOf from (now (codes .entry))) ⌝ }
 {
     let mut count = 0;
     let mut i = 0;
-    while i < quads.len() {
-        let q = quads[i];
-        if family_at(quads, i, from) {
-            quads[count] = q / 4;
+    while i < codes.len() {
+        let q = codes[i];
+        if family_at(codes, i, from) {
+            codes[count] = q / 4;
             i += 4;
         } else {
-            quads[count] = q;
+            codes[count] = q;
             i += 1;
         }
         count += 1;
@@ -101,24 +102,24 @@ fn join(quads: &mut [u64], from: u64) -> usize
     count
 }
 
-fn family_at(quads: &[u64], i: usize, from: u64) -> bool
-    requires { ⌜ i < length (now quads) ⌝ }
-    ensures { λ r. ⌜ r ≡ fourFrom from (drop i (now (quads .entry))) ⌝ }
+fn family_at(codes: &[u64], i: usize, from: u64) -> bool
+    requires { ⌜ i < length (now codes) ⌝ }
+    ensures { λ r. ⌜ r ≡ fourFrom from (drop i (now (codes .entry))) ⌝ }
 {
-    if quads.len() - i < 4 {
+    if codes.len() - i < 4 {
         return false;
     }
-    let q = quads[i];
+    let q = codes[i];
     if q < from {
         return false;
     }
     if q % 4 != 0 {
         return false;
     }
-    fourth(q) == quads[i + 3]
+    fourth(q) == codes[i + 3]
 }
 
-// The last quad of the family that starts with q.
+// The last Morton code of the family that starts with q.
 fn fourth(q: u64) -> u64
     requires { ⌜ q % 4 ≡ 0 ⌝ }
     ensures { λ r. ⌜ r ≡ q + 3 ⌝ }

@@ -30,7 +30,7 @@ use Rattle.ids.specs.Entry.{entryOf, entryTile, entriesOf, isEntry, entry-again
 use Rattle.merge.specs.Gives.{simplify-gives}
 use Rattle.merge.specs.Merge.{simplifyOf}
 use Rattle.tile.specs.declared.Tile.{Tile}
-use Rattle.quadtree.specs.Places.{map-tile}
+use Rattle.quadtree.specs.Locations.{map-tile}
 use Rattle.tile_list.specs.Laws.{named-by, names, accepted-entries}
 use Rattle.tile_list.specs.List.{listed, listRefusal, placesRefusal}
 use Rattle.tile_set.specs.Holds.{Valid}

@@ -15,8 +15,9 @@ use Rattle.errors.specs.declared.Refusal.the-variants.{TooMany, NoTile, Memory}
 use Rattle.ids.specs.Entry.{entryTile, isEntry}
 use Rattle.families.specs.Pass.{Merges}
 use Rattle.families.specs.declared.Joined.{Joined}
-use Rattle.quadtree.specs.Numbers.{placeTile}
+use Rattle.quadtree.specs.Numbers.{locationTile}
 use Rattle.quadtree.specs.Lists.{sortTile, entryKey, Keyed}
+use Rattle.quadtree.specs.declared.Key.{Key}
 use Rattle.tile.specs.declared.Tile.{Tile}
 use Rattle.tile_list.specs.Finish.{Listed, listed-filled}
 use Rattle.tile_list.specs.Laws.{named-by, keys-named}
@@ -57,9 +58,9 @@ changed-says Merge m list true c =
 changed-says SimplifyV1 m list b c = c
 changed-says Simplify m list b c = c
 
-pub keys-left : (placed fine : Bool) (list left : List ℕ) → Keyed placed list left fine → (work : Work) → not fine ≡ false → placed ≡ sortedBy work
+pub keys-left : (by : Key) (fine : Bool) (list left : List ℕ) → Keyed by list left fine → (work : Work) → not fine ≡ false → by ≡ sortedBy work
     → left ≡ map (entryKey (sortedBy work)) list
-keys-left placed fine list left k work e f = k .keys (not-false fine e) ∙ ap (λ (b : Bool). map (entryKey b) list) f
+keys-left by fine list left k work e f = k .keys (not-false fine e) ∙ ap (λ (k : Key). map (entryKey k) list) f
 
 -- the refusals, in the order of the tests
 pub too-many : (work : Work) (list : List ℕ) (m : ℕ) (memory : List ℕ) → maxEntries < length list
@@ -105,11 +106,11 @@ pub merged-worked : (work : Work) (m : ℕ) (keys after : List ℕ) (r : Joined)
 merged-worked work m keys after r e s p = rw e (record { size = s; listed = p .listed; changes = (p .still, p .moved) })
 
 pub simplified-worked : (work : Work) (m : ℕ) (keys after : List ℕ) (count : ℕ) → work ≡ Simplify → length after ≡ length keys
-    → Listed (simplified maxZoom m (named placeTile keys)) after count → Worked work m keys after (record { count = count; changed = false })
+    → Listed (simplified maxZoom m (named locationTile keys)) after count → Worked work m keys after (record { count = count; changed = false })
 simplified-worked work m keys after count e s p = rw e (record { size = s; listed = p; changes = refl })
 
 pub simplified-v1-worked : (work : Work) (m : ℕ) (keys after : List ℕ) (count : ℕ) → work ≡ SimplifyV1 → length after ≡ length keys
-    → Listed (simplifiedV1 maxZoom m (named placeTile keys)) after count → Worked work m keys after (record { count = count; changed = false })
+    → Listed (simplifiedV1 maxZoom m (named locationTile keys)) after count → Worked work m keys after (record { count = count; changed = false })
 simplified-v1-worked work m keys after count e s p = rw e (record { size = s; listed = p; changes = refl })
 
 -- a call's answer without what it says of change

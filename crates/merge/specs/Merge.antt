@@ -10,6 +10,8 @@ use Rattle.errors.specs.Answer.{Answer, Lent}
 use Rattle.errors.specs.Cases.{refusedAs}
 use Rattle.ids.specs.Entry.{entryTile}
 use Rattle.quadtree.specs.Lists.{sortTile}
+use Rattle.quadtree.specs.declared.Key.{Key}
+use Rattle.quadtree.specs.declared.Key.the-variants.{Location, Morton}
 use Rattle.tile.specs.declared.Tile.{Tile}
 use Rattle.tile_list.specs.Finish.{Listed}
 use Rattle.tile_list.specs.List.{named, listed, entriesInOrder, placesRefusal, listAnswer}
@@ -69,10 +71,10 @@ workChanges Merge m list = mergeChanges m list
 workChanges SimplifyV1 m list = false
 workChanges Simplify m list = false
 
-abbrev pub sortedBy : Work → Bool
-sortedBy Merge = false
-sortedBy SimplifyV1 = true
-sortedBy Simplify = true
+abbrev pub sortedBy : Work → Key
+sortedBy Merge = Morton
+sortedBy SimplifyV1 = Location
+sortedBy Simplify = Location
 
 abbrev pub workOf : Work → List ℕ → ℕ → List ℕ → Lent Merged
 workOf work list m memory =

@@ -14,7 +14,7 @@ use Rattle.ids.specs.Entry.{entryOf, entryTile, entriesOf, isEntry, entry-accep
 use Rattle.tile.specs.OnMap.{OnMap}
 use Rattle.tile.specs.declared.Tile.{Tile}
 use Rattle.tile_list.specs.Laws.{named-by, names, listed-within, same-named}
-use Rattle.quadtree.specs.Places.{map-tile}
+use Rattle.quadtree.specs.Locations.{map-tile}
 use Rattle.tile_list.specs.List.{listed, entriesInOrder, filled}
 use Rattle.tile_set.specs.Holds.{Holds}
 use Rattle.tile_set.specs.InOrder.{Ordered, in-order-of, in-order-in, in-order-ordered}

@@ -2,6 +2,7 @@
 use constants::MAX_ENTRIES;
 use errors::Count;
 use errors::Refusal;
+use quadtree::Key;
 use tile::OptionU8;
 ghost use mathlib.Core.Path.{_≡_};
 ghost use Prim.Native.Nat.{_≤_};
@@ -133,14 +134,14 @@ fn work_in(list: &[u64], work: Work, m: u8, out: &mut [u64], scratch: &mut [u64]
     MergeAnswer::Found(worked(scratch, work, m, &mut out[..n]))
 }
 
-// Whether the work is done in the order of places.
-fn sorted_by(work: Work) -> bool
+// The number of its tiles that a list is sorted by.
+fn sorted_by(work: Work) -> Key
     ensures { λ r. ⌜ r ≡ sortedBy work ⌝ }
 {
     match work {
-        Work::Merge => false,
-        Work::SimplifyV1 => true,
-        Work::Simplify => true,
+        Work::Merge => Key::Morton,
+        Work::SimplifyV1 => Key::Location,
+        Work::Simplify => Key::Location,
     }
 }
 

@@ -17,7 +17,7 @@ use Rattle.tile.specs.OnMap.{tileAt}
 use Rattle.tile.specs.Order.{Before, by-z}
 use Rattle.tile.specs.declared.Tile.{Tile}
 use Rattle.tile_list.specs.Laws.{named-by, names}
-use Rattle.quadtree.specs.Places.{map-tile}
+use Rattle.quadtree.specs.Locations.{map-tile}
 use Rattle.tile_list.specs.List.{listed, entriesInOrder, listRefusal, placesRefusal, listAnswer}
 use Rattle.tile_set.specs.Holds.{Holds, Valid, holds-refl, child-held}
 use Rattle.tile_set.specs.InOrder.{Ordered, in-order-is}

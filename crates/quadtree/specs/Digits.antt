@@ -1,4 +1,4 @@
--- Groups of bits that move apart and together again: how the code makes a quad of a column and a row, and takes it apart.
+-- Groups of bits that move apart and together again: how the code makes a Morton code of a column and a row, and takes it apart.
 use mathlib.Core.Path.{_≡_, refl, sym, ap, ap₂, _∙_}
 use Prim.Native.Nat.{ℕ, zero, suc, _+_, _-_, _*_, _/_, _%_, _^_, _≤_, _<_}
 use native.Mathlib.Nat.{lt-of-lt-of-le, lt-of-le-of-lt, pow-suc, mod-lt, mod-eq-of-lt, mul-le-mul-right, mul-lt-mul-of-pos-right}
@@ -6,7 +6,7 @@ use native.Mathlib.Omega.{arith}
 use lib.Arith.{digits-lt, digits-div, digits-mod}
 use lib.Bits.{bitAnd, bitOr, and-block, or-block, and-mask, and-zero-r, or-zero-r, or-lt, or-mod, or-shifted-r}
 use lib.Pow.{pow-pos, pow-mono, pow-add, ones-lt, shl-lt, shr-shr, split, mod-pow-add}
-use Rattle.quadtree.specs.Numbers.{quadAt, evenBits}
+use Rattle.quadtree.specs.Numbers.{mortonAt, evenBits}
 
 -- the c groups of w low bits of n, with w zeros above each group
 unfoldable pub apart : ℕ → ℕ → ℕ → ℕ
@@ -175,21 +175,21 @@ gather-steps n =
     let d = ap (down 8 (groups 16 2)) c ∙ move-together 8 2 e in
     ap (down 16 (groups 32 1)) d ∙ (move-together 16 1 e ∙ apart-one 32 e (even-small 32 n))
 
--- a quad is its leading 1 with the column and the row spread apart
+-- a Morton code is its leading 1 with the column and the row spread apart
 
 none-apart : (k : ℕ) → apart 1 k 0 ≡ 0
 unfolding apart
 none-apart zero = refl
 none-apart (suc k) = rw (none-apart k)
 
-pub quad-apart : (x y z k : ℕ) → x < 2 ^ z → y < 2 ^ z → z ≤ k → quadAt x y z ≡ 4 ^ z + apart 1 k x + 2 * apart 1 k y
-unfolding quadAt apart
-quad-apart x y zero k h l m =
+pub morton-apart : (x y z k : ℕ) → x < 2 ^ z → y < 2 ^ z → z ≤ k → mortonAt x y z ≡ 4 ^ z + apart 1 k x + 2 * apart 1 k y
+unfolding mortonAt apart
+morton-apart x y zero k h l m =
     let a : x ≡ 0 = omega arith in
     let b : y ≡ 0 = omega arith in
     rw (a, b, none-apart k)
-quad-apart x y (suc z) zero h l m = absurd (omega arith)
-quad-apart x y (suc z) (suc k) h l m =
+morton-apart x y (suc z) zero h l m = absurd (omega arith)
+morton-apart x y (suc z) (suc k) h l m =
     let h : x < 2 ^ z * 2 = rw (pow-suc 2 z) at h in
     let l : y < 2 ^ z * 2 = rw (pow-suc 2 z) at l in
-    rw (pow-suc 4 z, quad-apart (x / 2) (y / 2) z k (omega arith) (omega arith) (omega arith)) (omega arith)
+    rw (pow-suc 4 z, morton-apart (x / 2) (y / 2) z k (omega arith) (omega arith) (omega arith)) (omega arith)

@@ -13,29 +13,29 @@ use Rattle.ids.specs.Laws.{four-power, four-side}
 use Rattle.tile.specs.Order.{Before, by-z, by-x, by-y, one-before}
 use Rattle.tile.specs.declared.Tile.{Tile}
 use Rattle.tile_set.specs.Set.{child, ancestor, parentTile}
-use Rattle.quadtree.specs.Numbers.{OfMap, quadAt, quadOf, placeOf, rankOf, zoomIn, evenBits, quadTile, placeTile, rankTile}
+use Rattle.quadtree.specs.Numbers.{OfMap, mortonAt, mortonOf, locationOf, rankOf, zoomIn, evenBits, mortonTile, locationTile, rankTile}
 
--- the quad and the tree
+-- the Morton code and the tree
 
-pub quad-child : (p : Tile) (i j : ℕ) → i < 2 → j < 2 → quadOf (child p i j) ≡ 4 * quadOf p + (2 * j + i)
-unfolding quadAt
-quad-child p i j h k =
+pub morton-child : (p : Tile) (i j : ℕ) → i < 2 → j < 2 → mortonOf (child p i j) ≡ 4 * mortonOf p + (2 * j + i)
+unfolding mortonAt
+morton-child p i j h k =
     let a : (2 * p .x + i) / 2 ≡ p .x = omega arith in
     let b : (2 * p .y + j) / 2 ≡ p .y = omega arith in
     let c : (2 * p .x + i) % 2 ≡ i = omega arith in
     let d : (2 * p .y + j) % 2 ≡ j = omega arith in
     rw (a, b, c, d)
 
-at-four : (x y z : ℕ) → (quadAt x y (suc z) / 4 ≡ quadAt (x / 2) (y / 2) z) × (quadAt x y (suc z) % 4 ≡ 2 * (y % 2) + x % 2)
-unfolding quadAt
+at-four : (x y z : ℕ) → (mortonAt x y (suc z) / 4 ≡ mortonAt (x / 2) (y / 2) z) × (mortonAt x y (suc z) % 4 ≡ 2 * (y % 2) + x % 2)
+unfolding mortonAt
 at-four x y z = (omega arith, omega arith)
 
--- above its last digit a quad is that of the parent
-pub four-quads : (t : Tile) → 0 < t .z → (quadOf t / 4 ≡ quadOf (parentTile t)) × (quadOf t % 4 ≡ 2 * (t .y % 2) + t .x % 2)
-four-quads t h = let e : suc (t .z - 1) ≡ t .z = omega arith in rw e at (at-four (t .x) (t .y) (t .z - 1))
+-- above its last digit a Morton code is that of the parent
+pub four-codes : (t : Tile) → 0 < t .z → (mortonOf t / 4 ≡ mortonOf (parentTile t)) × (mortonOf t % 4 ≡ 2 * (t .y % 2) + t .x % 2)
+four-codes t h = let e : suc (t .z - 1) ≡ t .z = omega arith in rw e at (at-four (t .x) (t .y) (t .z - 1))
 
-at-above : (x y s k : ℕ) → quadAt (x / 2 ^ k) (y / 2 ^ k) s ≡ quadAt x y (s + k) / 4 ^ k
-at-above x y s zero = let e : s + 0 ≡ s = omega arith in rw (e, div-one x, div-one y, div-one (quadAt x y s))
+at-above : (x y s k : ℕ) → mortonAt (x / 2 ^ k) (y / 2 ^ k) s ≡ mortonAt x y (s + k) / 4 ^ k
+at-above x y s zero = let e : s + 0 ≡ s = omega arith in rw (e, div-one x, div-one y, div-one (mortonAt x y s))
 at-above x y s (suc k) =
     let e : s + suc k ≡ suc (s + k) = omega arith in
     rw (
@@ -44,23 +44,23 @@ at-above x y s (suc k) =
       pow-succ' 4 k,
       ← div-div-eq-div-mul x 2 (2 ^ k),
       ← div-div-eq-div-mul y 2 (2 ^ k),
-      ← div-div-eq-div-mul (quadAt x y (suc (s + k))) 4 (4 ^ k),
+      ← div-div-eq-div-mul (mortonAt x y (suc (s + k))) 4 (4 ^ k),
       at-four x y (s + k) .0,
     )
     (at-above (x / 2) (y / 2) s k)
 
-pub quad-ancestor : (t : Tile) (s : ℕ) → s ≤ t .z → quadOf (ancestor t s) ≡ quadOf t / 4 ^ (t .z - s)
-quad-ancestor t s h = let e : s + (t .z - s) ≡ t .z = omega arith in rw e at (at-above (t .x) (t .y) s (t .z - s))
+pub morton-ancestor : (t : Tile) (s : ℕ) → s ≤ t .z → mortonOf (ancestor t s) ≡ mortonOf t / 4 ^ (t .z - s)
+morton-ancestor t s h = let e : s + (t .z - s) ≡ t .z = omega arith in rw e at (at-above (t .x) (t .y) s (t .z - s))
 
--- which quads a zoom has
+-- which Morton codes a zoom has
 
-at-bounds : (x y z : ℕ) → (4 ^ z ≤ quadAt x y z) × (quadAt x y z < 2 * 4 ^ z)
-unfolding quadAt
+at-bounds : (x y z : ℕ) → (4 ^ z ≤ mortonAt x y z) × (mortonAt x y z < 2 * 4 ^ z)
+unfolding mortonAt
 at-bounds x y zero = omega arith
 at-bounds x y (suc z) = let i = at-bounds (x / 2) (y / 2) z in rw (pow-suc 4 z) (omega (arith, i .0, i .1))
 
-pub quad-bounds : (t : Tile) → (4 ^ t .z ≤ quadOf t) × (quadOf t < 2 * 4 ^ t .z)
-quad-bounds t = at-bounds (t .x) (t .y) (t .z)
+pub morton-bounds : (t : Tile) → (4 ^ t .z ≤ mortonOf t) × (mortonOf t < 2 * 4 ^ t .z)
+morton-bounds t = at-bounds (t .x) (t .y) (t .z)
 
 four-mono : {i j : ℕ} → i ≤ j → 4 ^ i ≤ 4 ^ j
 four-mono h = pow-le-pow-right (omega arith) h
@@ -68,17 +68,17 @@ four-mono h = pow-le-pow-right (omega arith) h
 four-pos : (k : ℕ) → 0 < 4 ^ k
 four-pos k = four-mono {i = 0} {j = k} (omega arith)
 
-pub quad-deeper : (t : Tile) (m : ℕ) → m < t .z → 4 ^ (m + 1) ≤ quadOf t
-quad-deeper t m h = let l : 4 ^ (m + 1) ≤ 4 ^ t .z = four-mono (omega arith) in omega (arith, quad-bounds t .0)
+pub morton-deeper : (t : Tile) (m : ℕ) → m < t .z → 4 ^ (m + 1) ≤ mortonOf t
+morton-deeper t m h = let l : 4 ^ (m + 1) ≤ 4 ^ t .z = four-mono (omega arith) in omega (arith, morton-bounds t .0)
 
-pub quad-shallower : (t : Tile) (m : ℕ) → t .z ≤ m → quadOf t < 4 ^ (m + 1)
-quad-shallower t m h = let l = four-mono h in rw (add-one m, pow-suc 4 m) (omega (arith, quad-bounds t .1))
+pub morton-shallower : (t : Tile) (m : ℕ) → t .z ≤ m → mortonOf t < 4 ^ (m + 1)
+morton-shallower t m h = let l = four-mono h in rw (add-one m, pow-suc 4 m) (omega (arith, morton-bounds t .1))
 
 deepest : {z : ℕ} → z ≤ maxZoom → 4 ^ z ≤ 2 ^ 60
 deepest h = four-mono {j = 30} (omega (arith, maxZoom-small))
 
-pub quad-small : (t : Tile) → OfMap t → (0 < quadOf t) × (quadOf t < 2 ^ 61)
-quad-small t m = let b = quad-bounds t in (omega (arith, four-pos (t .z)), omega (arith, deepest (m .zoom)))
+pub morton-small : (t : Tile) → OfMap t → (0 < mortonOf t) × (mortonOf t < 2 ^ 61)
+morton-small t m = let b = morton-bounds t in (omega (arith, four-pos (t .z)), omega (arith, deepest (m .zoom)))
 
 -- the zoom of a number with 2z + 1 bits
 pub zoom-in : (n z : ℕ) → z ≤ 31 → 4 ^ z ≤ n → n < 2 * 4 ^ z → zoomIn n ≡ z
@@ -88,10 +88,10 @@ zoom-in n z h a b =
     let e : 63 - 2 * z ≡ leadingZeros 64 n = leading-unique 64 n (63 - 2 * z) (2 * z + 1) (omega arith) (rw p b) (rw p (omega arith)) in
     rw (← e) (omega arith)
 
-pub quad-zoom : (t : Tile) → t .z ≤ 31 → zoomIn (quadOf t) ≡ t .z
-quad-zoom t h = let b = quad-bounds t in zoom-in (quadOf t) (t .z) h (b .0) (b .1)
+pub morton-zoom : (t : Tile) → t .z ≤ 31 → zoomIn (mortonOf t) ≡ t .z
+morton-zoom t h = let b = morton-bounds t in zoom-in (mortonOf t) (t .z) h (b .0) (b .1)
 
--- what the digits of a quad spell
+-- what the digits of a Morton code spell
 
 half-bits : (n z : ℕ) → n % 2 ^ suc z ≡ 2 * (n / 2 % 2 ^ z) + n % 2
 half-bits n z = rw (pow-suc 2 z, mod-mul n (pow-pos z) (pow-pos 1)) (omega arith)
@@ -102,43 +102,43 @@ none-even zero = refl
 none-even (suc k) = rw (none-even k)
 
 -- the leading 1 is a bit of the column
-at-column : (x y z k : ℕ) → z < k → evenBits k (quadAt x y z) ≡ 2 ^ z + x % 2 ^ z
-unfolding quadAt evenBits
+at-column : (x y z k : ℕ) → z < k → evenBits k (mortonAt x y z) ≡ 2 ^ z + x % 2 ^ z
+unfolding mortonAt evenBits
 at-column x y z zero h = absurd (omega arith)
 at-column x y zero (suc k) h = rw (none-even k, mod-one x)
 at-column x y (suc z) (suc k) h =
     let f = at-four x y z in
-    let e : (4 * quadAt (x / 2) (y / 2) z + (2 * (y % 2) + x % 2)) % 2 ≡ x % 2 = omega arith in
+    let e : (4 * mortonAt (x / 2) (y / 2) z + (2 * (y % 2) + x % 2)) % 2 ≡ x % 2 = omega arith in
     rw (f .0, at-column (x / 2) (y / 2) z k (omega arith), e, half-bits x z, pow-suc 2 z) (omega arith)
 
-at-row : (x y z k : ℕ) → z ≤ k → evenBits k (quadAt x y z / 2) ≡ y % 2 ^ z
-unfolding quadAt evenBits
+at-row : (x y z k : ℕ) → z ≤ k → evenBits k (mortonAt x y z / 2) ≡ y % 2 ^ z
+unfolding mortonAt evenBits
 at-row x y zero k h = rw (none-even k, mod-one y)
 at-row x y (suc z) zero h = absurd (omega arith)
 at-row x y (suc z) (suc k) h =
-    let n = 4 * quadAt (x / 2) (y / 2) z + (2 * (y % 2) + x % 2) in
-    let d : n / 2 / 4 ≡ quadAt (x / 2) (y / 2) z / 2 = omega arith in
+    let n = 4 * mortonAt (x / 2) (y / 2) z + (2 * (y % 2) + x % 2) in
+    let d : n / 2 / 4 ≡ mortonAt (x / 2) (y / 2) z / 2 = omega arith in
     let e : n / 2 % 2 ≡ y % 2 = omega arith in
     rw (d, at-row (x / 2) (y / 2) z k (omega arith), e, half-bits y z)
 
 zoom-small : {z : ℕ} → z ≤ maxZoom → z ≤ 31
 zoom-small h = omega (arith, maxZoom-small)
 
-pub quad-column : (t : Tile) → OfMap t → evenBits 32 (quadOf t) ≡ 2 ^ t .z + t .x
-quad-column t m = let l = zoom-small (m .zoom) in rw (at-column (t .x) (t .y) (t .z) 32 (omega arith), mod-eq-of-lt (m .column))
+pub morton-column : (t : Tile) → OfMap t → evenBits 32 (mortonOf t) ≡ 2 ^ t .z + t .x
+morton-column t m = let l = zoom-small (m .zoom) in rw (at-column (t .x) (t .y) (t .z) 32 (omega arith), mod-eq-of-lt (m .column))
 
-pub quad-row : (t : Tile) → OfMap t → evenBits 32 (quadOf t / 2) ≡ t .y
-quad-row t m = let l = zoom-small (m .zoom) in rw (at-row (t .x) (t .y) (t .z) 32 (omega arith), mod-eq-of-lt (m .row))
+pub morton-row : (t : Tile) → OfMap t → evenBits 32 (mortonOf t / 2) ≡ t .y
+morton-row t m = let l = zoom-small (m .zoom) in rw (at-row (t .x) (t .y) (t .z) 32 (omega arith), mod-eq-of-lt (m .row))
 
 -- a column below its leading 1
 below-one : (x z : ℕ) → x < 2 ^ z → (2 ^ z + x) % 2 ^ z ≡ x
 below-one x z h = let e : 2 ^ z + x ≡ 1 * 2 ^ z + x = omega arith in rw e (digits-mod 1 h)
 
-pub quad-tile : (t : Tile) → OfMap t → quadTile (quadOf t) ≡ t
-unfolding quadTile
-quad-tile t m = rw (quad-zoom t (zoom-small (m .zoom)), quad-column t m, quad-row t m, below-one (t .x) (t .z) (m .column))
+pub morton-tile : (t : Tile) → OfMap t → mortonTile (mortonOf t) ≡ t
+unfolding mortonTile
+morton-tile t m = rw (morton-zoom t (zoom-small (m .zoom)), morton-column t m, morton-row t m, below-one (t .x) (t .z) (m .column))
 
--- the place: its lowest set bit stands just below the quad
+-- the location: its lowest set bit stands just below the Morton code
 
 trailing-odd : (k u q : ℕ) → u < k → trailingZeros k ((2 * q + 1) * 2 ^ u) ≡ u
 unfolding trailingZeros
@@ -151,32 +151,32 @@ trailing-odd (suc k) (suc u) q h =
     let e : n * 2 % 2 ≡ 0 = omega arith in
     rw (p, d, e, trailing-odd k u q (omega arith))
 
-pub place-shift : (t : Tile) → placeOf t ≡ (2 * quadOf t + 1) * 2 ^ (2 * (maxZoom - t .z))
-unfolding placeOf
-place-shift t = rw (four-side (maxZoom - t .z))
+pub location-shift : (t : Tile) → locationOf t ≡ (2 * mortonOf t + 1) * 2 ^ (2 * (maxZoom - t .z))
+unfolding locationOf
+location-shift t = rw (four-side (maxZoom - t .z))
 
-pub place-small : (t : Tile) → OfMap t → placeOf t < 2 ^ 62
-unfolding placeOf
-place-small t m =
+pub location-small : (t : Tile) → OfMap t → locationOf t < 2 ^ 62
+unfolding locationOf
+location-small t m =
     let k = maxZoom - t .z in
     let a : t .z + k ≡ maxZoom = omega (arith, m .zoom) in
-    let l : 2 * quadOf t + 1 < 4 * 4 ^ t .z = omega (arith, quad-bounds t .1) in
+    let l : 2 * mortonOf t + 1 < 4 * 4 ^ t .z = omega (arith, morton-bounds t .1) in
     let e : 4 * 4 ^ t .z * 4 ^ k ≡ 4 * 4 ^ maxZoom =
     mul-assoc 4 (4 ^ t .z) (4 ^ k) ∙ ap (λ (n : ℕ). 4 * n) (sym (pow-add 4 (t .z) k) ∙ ap (λ (n : ℕ). 4 ^ n) a) in
     omega (arith, mul-lt-mul-of-pos-right l (four-pos k), deepest {z = maxZoom} (omega arith))
 
-pub place-zeros : (t : Tile) → trailingZeros 64 (placeOf t) ≡ 2 * (maxZoom - t .z)
-place-zeros t = rw (place-shift t) (trailing-odd 64 (2 * (maxZoom - t .z)) (quadOf t) (omega (arith, maxZoom-small)))
+pub location-zeros : (t : Tile) → trailingZeros 64 (locationOf t) ≡ 2 * (maxZoom - t .z)
+location-zeros t = rw (location-shift t) (trailing-odd 64 (2 * (maxZoom - t .z)) (mortonOf t) (omega (arith, maxZoom-small)))
 
-pub place-quad : (t : Tile) → placeOf t / 2 ^ (trailingZeros 64 (placeOf t) + 1) ≡ quadOf t
-place-quad t =
+pub location-morton : (t : Tile) → locationOf t / 2 ^ (trailingZeros 64 (locationOf t) + 1) ≡ mortonOf t
+location-morton t =
     let u = 2 * (maxZoom - t .z) in
-    let h : (2 * quadOf t + 1) / 2 ≡ quadOf t = omega arith in
-    rw (place-zeros t, place-shift t, ← shr-shr ((2 * quadOf t + 1) * 2 ^ u) u 1, shl-shr (2 * quadOf t + 1) u) h
+    let h : (2 * mortonOf t + 1) / 2 ≡ mortonOf t = omega arith in
+    rw (location-zeros t, location-shift t, ← shr-shr ((2 * mortonOf t + 1) * 2 ^ u) u 1, shl-shr (2 * mortonOf t + 1) u) h
 
-pub place-tile : (t : Tile) → OfMap t → placeTile (placeOf t) ≡ t
-unfolding placeTile
-place-tile t m = rw (place-quad t) (quad-tile t m)
+pub location-tile : (t : Tile) → OfMap t → locationTile (locationOf t) ≡ t
+unfolding locationTile
+location-tile t m = rw (location-morton t) (morton-tile t m)
 
 -- the rank, and the order of lists
 
@@ -209,13 +209,13 @@ rank-tile t m = rw (rank-column t m, rank-row t m, rank-zoom t m, below-one (t .
 pub rank-taken : {r k : ℕ} (t : Tile) → OfMap t → rankOf t ≡ r → k ≡ zoomIn r → (k ≡ t .z) × (r / 2 ^ k ≡ 2 ^ t .z + t .x) × (r % 2 ^ k ≡ t .y)
 rank-taken t m e f = rw (f, ← e) (rank-zoom t m, rank-column t m, rank-row t m)
 
--- as the code makes it of a quad
-pub quad-rank : (t : Tile) → OfMap t → evenBits 32 (quadOf t) * 2 ^ zoomIn (quadOf t) % 2 ^ 64 + evenBits 32 (quadOf t / 2) ≡ rankOf t
-quad-rank t m =
+-- as the code makes it of a Morton code
+pub morton-rank : (t : Tile) → OfMap t → evenBits 32 (mortonOf t) * 2 ^ zoomIn (mortonOf t) % 2 ^ 64 + evenBits 32 (mortonOf t / 2) ≡ rankOf t
+morton-rank t m =
     let s = rank-small t m in
     let e = rank-parts t in
     let l : (2 ^ t .z + t .x) * 2 ^ t .z < 2 ^ 64 = omega arith in
-    rw (quad-zoom t (zoom-small (m .zoom)), quad-column t m, quad-row t m, mod-eq-of-lt l) (sym e)
+    rw (morton-zoom t (zoom-small (m .zoom)), morton-column t m, morton-row t m, mod-eq-of-lt l) (sym e)
 
 pub rank-before : (s t : Tile) → OfMap s → OfMap t → Before s t → rankOf s < rankOf t
 unfolding rankOf
@@ -236,11 +236,11 @@ before-rank s t m n h = pick (one-before s t)
 
 -- each number is of one tile
 
-pub quad-inj : (s t : Tile) → OfMap s → OfMap t → quadOf s ≡ quadOf t → s ≡ t
-quad-inj s t m n e = sym (quad-tile s m) ∙ (ap quadTile e ∙ quad-tile t n)
+pub morton-inj : (s t : Tile) → OfMap s → OfMap t → mortonOf s ≡ mortonOf t → s ≡ t
+morton-inj s t m n e = sym (morton-tile s m) ∙ (ap mortonTile e ∙ morton-tile t n)
 
-pub place-inj : (s t : Tile) → OfMap s → OfMap t → placeOf s ≡ placeOf t → s ≡ t
-place-inj s t m n e = sym (place-tile s m) ∙ (ap placeTile e ∙ place-tile t n)
+pub location-inj : (s t : Tile) → OfMap s → OfMap t → locationOf s ≡ locationOf t → s ≡ t
+location-inj s t m n e = sym (location-tile s m) ∙ (ap locationTile e ∙ location-tile t n)
 
 pub rank-inj : (s t : Tile) → OfMap s → OfMap t → rankOf s ≡ rankOf t → s ≡ t
 rank-inj s t m n e = sym (rank-tile s m) ∙ (ap rankTile e ∙ rank-tile t n)

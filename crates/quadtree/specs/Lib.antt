@@ -2,4 +2,4 @@ pub mod Numbers
 pub mod Laws
 pub mod Digits
 pub mod Lists
-pub mod Places
+pub mod Locations

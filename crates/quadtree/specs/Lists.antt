@@ -14,23 +14,25 @@ use Rattle.bits.specs.Tests.{not-true, not-false, allOf, all-in, getD-in}
 use Rattle.errors.specs.Memory.{front, front-length, front-more}
 use Rattle.ids.specs.Entry.{entryOf, entryTile, isEntry, accepted-entry}
 use Rattle.tile.specs.declared.Tile.{Tile}
-use Rattle.quadtree.specs.Laws.{quad-tile, place-tile}
-use Rattle.quadtree.specs.Numbers.{OfMap, quadOf, placeOf, rankOf, quadTile, placeTile, rankTile}
+use Rattle.quadtree.specs.Laws.{morton-tile, location-tile}
+use Rattle.quadtree.specs.declared.Key.{Key}
+use Rattle.quadtree.specs.declared.Key.the-variants.{Location, Morton}
+use Rattle.quadtree.specs.Numbers.{OfMap, mortonOf, locationOf, rankOf, mortonTile, locationTile, rankTile}
 
--- the key that a list is sorted by: the place or the quad
-abbrev pub sortKey : Bool → Tile → ℕ
-sortKey true t = placeOf t
-sortKey false t = quadOf t
+-- the key that a list is sorted by: the location or the Morton code
+abbrev pub sortKey : Key → Tile → ℕ
+sortKey Location t = locationOf t
+sortKey Morton t = mortonOf t
 
-abbrev pub sortTile : Bool → ℕ → Tile
-sortTile true k = placeTile k
-sortTile false k = quadTile k
+abbrev pub sortTile : Key → ℕ → Tile
+sortTile Location k = locationTile k
+sortTile Morton k = mortonTile k
 
-abbrev pub entryKey : Bool → ℕ → ℕ
-entryKey placed e = sortKey placed (entryTile e)
+abbrev pub entryKey : Key → ℕ → ℕ
+entryKey by e = sortKey by (entryTile e)
 
-abbrev pub keyRank : Bool → ℕ → ℕ
-keyRank placed k = rankOf (sortTile placed k)
+abbrev pub keyRank : Key → ℕ → ℕ
+keyRank by k = rankOf (sortTile by k)
 
 abbrev pub tileEntry : Tile → ℕ
 tileEntry t = entryOf (t .x) (t .y) (t .z)
@@ -52,13 +54,13 @@ abbrev pub TileNumbers : (Tile → ℕ) → List ℕ → Type 0
 TileNumbers f l = (n : ℕ) → List·Memᴰ n l → TileNumber f n
 
 -- what `keys` answers of a list, and leaves where all of it are entries
-pub record Keyed (placed : Bool) (list left : List ℕ) (fine : Bool) : Type 0 where
+pub record Keyed (by : Key) (list left : List ℕ) (fine : Bool) : Type 0 where
   pub answer : fine ≡ allOf isEntry list
-  pub keys : fine ≡ true → left ≡ map (entryKey placed) list
+  pub keys : fine ≡ true → left ≡ map (entryKey by) list
 
 -- laws
 
-module _ (placed fine : Bool) (list left : List ℕ) (k : Keyed placed list left fine) where
+module _ (by : Key) (fine : Bool) (list left : List ℕ) (k : Keyed by list left fine) where
   pub keys-refused : not fine ≡ true → false ≡ allOf isEntry list
   keys-refused e = sym (not-true fine e) ∙ k .answer
 
@@ -68,9 +70,9 @@ module _ (placed fine : Bool) (list left : List ℕ) (k : Keyed placed list left
 pub number-at : {f : Tile → ℕ} (l : List ℕ) (i : ℕ) → TileNumbers f l → i < length l → TileNumber f (getD l i 0)
 number-at l i all h = all (getD l i 0) (getD-in l i 0 h)
 
-pub key-tile : (placed : Bool) (t : Tile) → OfMap t → sortTile placed (sortKey placed t) ≡ t
-key-tile true t m = place-tile t m
-key-tile false t m = quad-tile t m
+pub key-tile : (by : Key) (t : Tile) → OfMap t → sortTile by (sortKey by t) ≡ t
+key-tile Location t m = location-tile t m
+key-tile Morton t m = morton-tile t m
 
 -- what one call leaves, the next may take
 
@@ -82,9 +84,9 @@ map-numbers {f} g (a ∷ l) each n m = pick (List·Memᴰ·cases-cons m) (map-nu
     pick (inl e) rest = rw e (each a (List·Memᴰ·head refl))
     pick (inr i) rest = rest n i
 
-pub keys-of-tiles : (placed : Bool) (list : List ℕ) → allOf isEntry list ≡ true → TileNumbers (sortKey placed) (map (entryKey placed) list)
-keys-of-tiles placed list e =
-    map-numbers (entryKey placed) list (λ n m. record { tile = entryTile n; on-map = accepted-entry n (eqb-true _ _ (all-in isEntry list e m)); number = refl })
+pub keys-of-tiles : (by : Key) (list : List ℕ) → allOf isEntry list ≡ true → TileNumbers (sortKey by) (map (entryKey by) list)
+keys-of-tiles by list e =
+    map-numbers (entryKey by) list (λ n m. record { tile = entryTile n; on-map = accepted-entry n (eqb-true _ _ (all-in isEntry list e m)); number = refl })
 
 map-at : (f : ℕ → ℕ) (l : List ℕ) (i : ℕ) → i < length l → getD (map f l) i 0 ≡ f (getD l i 0)
 map-at f [] i h = absurd (omega arith)

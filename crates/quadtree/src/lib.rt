@@ -8,8 +8,14 @@ ghost use Prim.Native.Nat.{_<_};
 ghost use lib.ListN.{length};
 ghost use Rattle.quadtree.specs.Digits.{apart};
 ghost use Rattle.quadtree.specs.Lists.{sortKey, keyRank, rankEntry, TileNumber, TileNumbers, Keyed};
-ghost use Rattle.quadtree.specs.Places.{IsPlace, lowOf};
-ghost use Rattle.quadtree.specs.Numbers.{OfMap, quadOf, placeOf, rankOf, zoomIn, evenBits, quadTile, placeTile};
+ghost use Rattle.quadtree.specs.Locations.{IsLocation, lowOf};
+ghost use Rattle.quadtree.specs.Numbers.{OfMap, mortonOf, locationOf, rankOf, zoomIn, evenBits, mortonTile, locationTile};
+
+// The number of a tile that a list is sorted by.
+pub enum Key {
+    Location,
+    Morton,
+}
 
 // The bits of n with a 0 between each two: its halves move apart, then their halves. A table would be copied to the stack at each call.
 fn spread(n: u32) -> u64
@@ -35,21 +41,21 @@ fn gather(n: u64) -> u64
     (v | (v >> 16)) & 0x0000_0000_ffff_ffff
 }
 
-pub fn quad(t: Tile) -> u64
+pub fn morton(t: Tile) -> u64
     requires { ⌜ OfMap t ⌝ }
-    ensures { λ r. ⌜ r ≡ quadOf t ⌝ }
+    ensures { λ r. ⌜ r ≡ mortonOf t ⌝ }
 {
     bits::wide_pow2(2 * t.z) + spread(t.x) + 2 * spread(t.y)
 }
 
-pub fn place(t: Tile) -> u64
+pub fn location(t: Tile) -> u64
     requires { ⌜ OfMap t ⌝ }
-    ensures { λ r. ⌜ r ≡ placeOf t ⌝ }
+    ensures { λ r. ⌜ r ≡ locationOf t ⌝ }
 {
-    (2 * quad(t) + 1) << (2 * (MAX_ZOOM - t.z))
+    (2 * morton(t) + 1) << (2 * (MAX_ZOOM - t.z))
 }
 
-// The zoom of a quad or a rank.
+// The zoom of a Morton code or a rank.
 fn zoom_in(n: u64) -> u8
     requires { ⌜ 0 < n ⌝ }
     ensures { λ r. ⌜ r ≡ zoomIn n ⌝ }
@@ -57,35 +63,37 @@ fn zoom_in(n: u64) -> u8
     ((63 - u64::leading_zeros(n)) / 2) as u8
 }
 
-pub fn rank_of_quad(q: u64) -> u64
-    requires { ⌜ TileNumber quadOf q ⌝ }
-    ensures { λ r. ⌜ r ≡ rankOf (quadTile q) ⌝ }
+pub fn rank_of_morton(q: u64) -> u64
+    requires { ⌜ TileNumber mortonOf q ⌝ }
+    ensures { λ r. ⌜ r ≡ rankOf (mortonTile q) ⌝ }
 {
     (gather(q) << zoom_in(q)) + gather(q >> 1)
 }
 
-pub fn rank_of_place(p: u64) -> u64
-    requires { ⌜ TileNumber placeOf p ⌝ }
-    ensures { λ r. ⌜ r ≡ rankOf (placeTile p) ⌝ }
+pub fn rank_of_location(p: u64) -> u64
+    requires { ⌜ TileNumber locationOf p ⌝ }
+    ensures { λ r. ⌜ r ≡ rankOf (locationTile p) ⌝ }
 {
-    rank_of_quad(p >> (u64::trailing_zeros(p) + 1))
+    rank_of_morton(p >> (u64::trailing_zeros(p) + 1))
 }
 
-fn key(t: Tile, placed: bool) -> u64
+fn key_of(t: Tile, by: Key) -> u64
     requires { ⌜ OfMap t ⌝ }
-    ensures { λ r. ⌜ r ≡ sortKey placed t ⌝ }
+    ensures { λ r. ⌜ r ≡ sortKey by t ⌝ }
 {
-    if placed { place(t) } else { quad(t) }
+    match by {
+        Key::Location => location(t),
+        Key::Morton => morton(t),
+    }
 }
 
-fn rank(k: u64, placed: bool) -> u64
-    requires { ⌜ TileNumber (sortKey placed) k ⌝ }
-    ensures { λ r. ⌜ r ≡ keyRank placed k ⌝ }
+fn rank(k: u64, by: Key) -> u64
+    requires { ⌜ TileNumber (sortKey by) k ⌝ }
+    ensures { λ r. ⌜ r ≡ keyRank by k ⌝ }
 {
-    if placed {
-        rank_of_place(k)
-    } else {
-        rank_of_quad(k)
+    match by {
+        Key::Location => rank_of_location(k),
+        Key::Morton => rank_of_morton(k),
     }
 }
 
@@ -98,16 +106,16 @@ fn entry_of_rank(r: u64) -> u64
     ids::entry((column - (1 << z)) as u32, (r - (column << z)) as u32, z)
 }
 
-// The keys of a list's tiles, by their places or their quads, and whether all of the list are entries; it stops at the first that is none.
-pub fn keys(list: &[u64], keys: &mut [u64], placed: bool) -> bool
+// The keys of a list's tiles, and whether all of the list are entries; it stops at the first that is none.
+pub fn keys(list: &[u64], keys: &mut [u64], by: Key) -> bool
     requires { ⌜ length (now list) ≡ length (now keys) ⌝ }
-    ensures { λ r. ⌜ Keyed placed (now (list .entry)) (now (keys .exit)) r ⌝ }
+    ensures { λ r. ⌜ Keyed by (now (list .entry)) (now (keys .exit)) r ⌝ }
 {
     let mut i = 0;
     while i < list.len() {
         match ids::entry_tile(list[i]) {
             TileAnswer::Found(t) => {
-                keys[i] = key(t, placed);
+                keys[i] = key_of(t, by);
             }
             TileAnswer::Refused(_) => {
                 return false;
@@ -119,13 +127,13 @@ pub fn keys(list: &[u64], keys: &mut [u64], placed: bool) -> bool
 }
 
 // Keys become ranks.
-pub fn ranks(keys: &mut [u64], placed: bool)
-    requires { ⌜ TileNumbers (sortKey placed) (now keys) ⌝ }
-    ensures { λ _. ⌜ now (keys .exit) ≡ map (keyRank placed) (now (keys .entry)) ⌝ }
+pub fn ranks(keys: &mut [u64], by: Key)
+    requires { ⌜ TileNumbers (sortKey by) (now keys) ⌝ }
+    ensures { λ _. ⌜ now (keys .exit) ≡ map (keyRank by) (now (keys .entry)) ⌝ }
 {
     let mut i = 0;
     while i < keys.len() {
-        keys[i] = rank(keys[i], placed);
+        keys[i] = rank(keys[i], by);
         i += 1;
     }
 }
@@ -142,10 +150,10 @@ pub fn entries(ranks: &mut [u64])
     }
 }
 
-// Half the length of the tile's run, which its place is in the middle of.
+// Half the length of the tile's run, which its location is in the middle of.
 pub fn low_bit(k: u64) -> u64
-    requires { ⌜ IsPlace k ⌝ }
-    ensures { λ r. ⌜ r ≡ lowOf (placeTile k) ⌝ }
+    requires { ⌜ IsLocation k ⌝ }
+    ensures { λ r. ⌜ r ≡ lowOf (locationTile k) ⌝ }
 {
     1 << u64::trailing_zeros(k)
 }

@@ -1,29 +1,29 @@
--- What the pass makes of a list of places, and what its parts do: places are taken off the stack, and families are joined.
+-- What the pass makes of a list of locations, and what its parts do: locations are taken off the stack, and families are joined.
 use mathlib.Core.Path.{_≡_}
 use mathlib.Core.List.{List}
 use Prim.Native.Nat.{ℕ, _-_, _≤_, _<_}
 use lib.ListN.{length, take, getD}
 use Rattle.quadtree.specs.Lists.{TileNumbers}
-use Rattle.quadtree.specs.Numbers.{placeOf, placeTile}
+use Rattle.quadtree.specs.Numbers.{locationOf, locationTile}
 use Rattle.sort.specs.Sort.{Rising}
 use Rattle.tile.specs.declared.Tile.{Tile}
 use Rattle.tile_list.specs.List.{named}
 use Rattle.tile_set.specs.Set.{child}
 use Rattle.tile_set.specs.Simplified.{Simplest}
-use Rattle.quadtree.specs.Places.{IsPlace, tiles}
+use Rattle.quadtree.specs.Locations.{IsLocation, tiles}
 
--- the first r numbers of `after` are the places, in order, of what `before` comes to at minimum zoom m
+-- the first r numbers of `after` are the locations, in order, of what `before` comes to at minimum zoom m
 pub record Settles (m : ℕ) (before after : List ℕ) (r : ℕ) : Type 0 where
   pub within : r ≤ length after
-  pub places : TileNumbers placeOf (take r after)
+  pub locations : TileNumbers locationOf (take r after)
   pub rising : Rising (take r after)
-  pub simplest : Simplest m (named placeTile before) (named placeTile (take r after))
+  pub simplest : Simplest m (named locationTile before) (named locationTile (take r after))
 
--- k on top of the first `count` numbers, places all of them
+-- k on top of the first `count` numbers, locations all of them
 pub record Stand (l : List ℕ) (count k : ℕ) : Type 0 where
   pub within : count ≤ length l
-  pub each : (i : ℕ) → i < count → IsPlace (getD l i 0)
-  pub top : IsPlace k
+  pub each : (i : ℕ) → i < count → IsLocation (getD l i 0)
+  pub top : IsLocation k
 
 -- of `count` numbers those above `start` at the end are taken off, and r are left
 pub record Popped (l : List ℕ) (start count r : ℕ) : Type 0 where
@@ -42,5 +42,5 @@ pub record Family (m : ℕ) (T : ℕ → Tile) (n : ℕ) (t p : Tile) : Type 0 w
 
 -- with k on top of `count` numbers, families are joined until none is there, which leaves j on top of c
 pub data Joins (m : ℕ) (l : List ℕ) (c j : ℕ) : ℕ → ℕ → Type 0 where
-  stop : ((p : Tile) → Family m (tiles l) c (placeTile j) p → ⊥) → Joins m l c j c j
-  join : {count k : ℕ} (p : Tile) → Family m (tiles l) count (placeTile k) p → Joins m l c j (count - 3) (placeOf p) → Joins m l c j count k
+  stop : ((p : Tile) → Family m (tiles l) c (locationTile j) p → ⊥) → Joins m l c j c j
+  join : {count k : ℕ} (p : Tile) → Family m (tiles l) count (locationTile k) p → Joins m l c j (count - 3) (locationOf p) → Joins m l c j count k

@@ -7,13 +7,13 @@ use Prim.Native.Nat.{ℕ, _+_, _-_, _≤_, _<_}
 use native.Mathlib.Decide.{decLt}
 use native.Mathlib.Omega.{arith}
 use Rattle.constants.specs.Limits.{maxZoom}
-use Rattle.quadtree.specs.Numbers.{OfMap, placeOf}
+use Rattle.quadtree.specs.Numbers.{OfMap, locationOf}
 use Rattle.tile.specs.declared.Tile.{Tile}
 use Rattle.tile_set.specs.Holds.{Holds, holds-trans, child-held}
 use Rattle.tile_set.specs.Set.{child}
 use Rattle.tile_set.specs.Simplified.{Built, joined}
-use Rattle.quadtree.specs.Places.{startOf, endOf, low-pos, low-below, Lie, holding, held, before, after, lies, held-run, place-held}
-use Rattle.quadtree.specs.Places.{low-child, place-child, parent-of-map}
+use Rattle.quadtree.specs.Locations.{startOf, endOf, low-pos, low-below, Lie, holding, held, before, after, lies, held-run, location-held}
+use Rattle.quadtree.specs.Locations.{low-child, location-child, parent-of-map}
 use Rattle.settle.specs.Settle.{Family}
 
 -- x is one of the first n tiles
@@ -58,17 +58,17 @@ stack-front {m} {S} {T} {n} k l s = record {
 
 -- the tiles that lie in t are taken off
 module _ (m : ℕ) (S : Tile → Bool) (T : ℕ → Tile) (n r : ℕ) (t : Tile) (s : Stack m S T n) (o : OfMap t)
-    (past : (i : ℕ) → i < n → endOf (T i) ≤ placeOf t) (l : r ≤ n) (off : (i : ℕ) → r ≤ i → i < n → startOf t < placeOf (T i)) where
+    (past : (i : ℕ) → i < n → endOf (T i) ≤ locationOf t) (l : r ≤ n) (off : (i : ℕ) → r ≤ i → i < n → startOf t < locationOf (T i)) where
   pub pop-under : (x : Tile) → Under T n x → Under T r x ⊎ Holds t x
   pop-under x (i, h, k) = pick (decLt i r)
     where
       pick : Dec (i < r) → Under T r x ⊎ Holds t x
       pick (yes g) = inl (i, g, k)
       pick (no g) =
-          inr (holds-trans (place-held t (T i) o (s .of-map i h) (off i (omega arith) h)
+          inr (holds-trans (location-held t (T i) o (s .of-map i h) (off i (omega arith) h)
           (omega (arith, past i h, low-pos (T i), low-pos t))) k)
 
-  pub pop-top : Built m S t → (0 < r → placeOf (T (r - 1)) ≤ startOf t) → Onto m S T r t
+  pub pop-top : Built m S t → (0 < r → locationOf (T (r - 1)) ≤ startOf t) → Onto m S T r t
   pop-top b last = record { stack = stack-front r l s; of-map = o; built = b; above = above }
     where
       lie : 0 < r → Lie (T (r - 1)) t → endOf (T (r - 1)) ≤ startOf t
@@ -97,10 +97,10 @@ record Four (p : Tile) : Type 0 where
 
 four : (p : Tile) → p .z < maxZoom → Four p
 four p h =
-    let a = place-child p h 0 0 (omega arith) (omega arith) in
-    let b = place-child p h 1 0 (omega arith) (omega arith) in
-    let c = place-child p h 0 1 (omega arith) (omega arith) in
-    let d = place-child p h 1 1 (omega arith) (omega arith) in
+    let a = location-child p h 0 0 (omega arith) (omega arith) in
+    let b = location-child p h 1 0 (omega arith) (omega arith) in
+    let c = location-child p h 0 1 (omega arith) (omega arith) in
+    let d = location-child p h 1 1 (omega arith) (omega arith) in
     let w = low-child p h 0 0 in
     let x = low-child p h 1 0 in
     let y = low-child p h 0 1 in

@@ -1,5 +1,6 @@
-// One pass over the places of tiles in order: tiles that lie in others are dropped, and families are joined until none is left.
+// One pass over the locations of tiles in order: tiles that lie in others are dropped, and families are joined until none is left.
 use constants::MAX_ZOOM;
+use quadtree::Key;
 ghost use mathlib.Core.Path.{_≡_};
 ghost use mathlib.Core.Bool.{true};
 ghost use mathlib.Core.Logic.{_↔_};
@@ -7,41 +8,41 @@ ghost use Prim.Native.Nat.{_≤_};
 ghost use lib.ListN.{length};
 ghost use Rattle.constants.specs.Limits.{maxZoom};
 ghost use Rattle.quadtree.specs.Lists.{TileNumbers};
-ghost use Rattle.quadtree.specs.Numbers.{quadOf, placeOf, placeTile};
+ghost use Rattle.quadtree.specs.Numbers.{mortonOf, locationOf, locationTile};
 ghost use Rattle.sort.specs.Sort.{By};
 ghost use Rattle.tile.specs.declared.Tile.{Tile};
 ghost use Rattle.tile_list.specs.Finish.{Listed};
 ghost use Rattle.tile_list.specs.List.{named};
 ghost use Rattle.tile_set.specs.Set.{simplified};
-ghost use Rattle.quadtree.specs.Places.{IsPlace, tiles};
+ghost use Rattle.quadtree.specs.Locations.{IsLocation, tiles};
 ghost use Rattle.settle.specs.Settle.{Settles, Stand, Popped, Family, Joins};
 
-// `simplify`, from the places of a set's tiles to the settled set as a list.
-pub fn simplified(places: &mut [u64], out: &mut [u64], m: u8) -> usize
-    requires { ⌜ TileNumbers placeOf (now places) × (length (now places) ≡ length (now out)) ⌝ }
-    ensures { λ r. ⌜ Listed (simplified maxZoom m (named placeTile (now (places .entry)))) (now (out .exit)) r ⌝ }
+// `simplify`, from the locations of a set's tiles to the settled set as a list.
+pub fn simplified(locations: &mut [u64], out: &mut [u64], m: u8) -> usize
+    requires { ⌜ TileNumbers locationOf (now locations) × (length (now locations) ≡ length (now out)) ⌝ }
+    ensures { λ r. ⌜ Listed (simplified maxZoom m (named locationTile (now (locations .entry)))) (now (out .exit)) r ⌝ }
 {
-    sort::sort_into(places, out);
+    sort::sort_into(locations, out);
     let count = settle(out, m);
-    tile_list::finish(out, count, places, true)
+    tile_list::finish(out, count, locations, Key::Location)
 }
 
-// The first `count` places are a stack of what is kept, and `end` is where the last of them ends. The answer is the stack's length.
-pub fn settle(places: &mut [u64], m: u8) -> usize
-    requires { ⌜ TileNumbers placeOf (now places) × By (λ n. n) (now places) ⌝ }
-    ensures { λ r. ⌜ Settles m (now (places .entry)) (now (places .exit)) r ⌝ }
+// The first `count` locations are a stack of what is kept, and `end` is where the last of them ends. The answer is the stack's length.
+pub fn settle(locations: &mut [u64], m: u8) -> usize
+    requires { ⌜ TileNumbers locationOf (now locations) × By (λ n. n) (now locations) ⌝ }
+    ensures { λ r. ⌜ Settles m (now (locations .entry)) (now (locations .exit)) r ⌝ }
 {
     let mut count = 0;
     let mut end = 0;
     let mut i = 0;
-    while i < places.len() {
-        let k = places[i];
+    while i < locations.len() {
+        let k = locations[i];
         if end <= k {
             let low = quadtree::low_bit(k);
-            let kept = popped(places, count, k - low);
-            let top = joined(places, kept, k, m);
+            let kept = popped(locations, count, k - low);
+            let top = joined(locations, kept, k, m);
             let at = top.count;
-            places[at] = top.place;
+            locations[at] = top.location;
             count = at + 1;
             end = k + low;
         }
@@ -50,34 +51,34 @@ pub fn settle(places: &mut [u64], m: u8) -> usize
     count
 }
 
-// A place that goes on top of `count` others.
+// A location that goes on top of `count` others.
 struct Top {
     count: usize,
-    place: u64,
+    location: u64,
 }
 
 pub fn zoom(k: u64) -> u8
-    requires { ⌜ IsPlace k ⌝ }
-    ensures { λ r. ⌜ r ≡ placeTile k .z ⌝ }
+    requires { ⌜ IsLocation k ⌝ }
+    ensures { λ r. ⌜ r ≡ locationTile k .z ⌝ }
 {
     MAX_ZOOM - (u64::trailing_zeros(k) / 2) as u8
 }
 
-pub fn quad(k: u64) -> u64
-    requires { ⌜ IsPlace k ⌝ }
-    ensures { λ r. ⌜ r ≡ quadOf (placeTile k) ⌝ }
+pub fn morton(k: u64) -> u64
+    requires { ⌜ IsLocation k ⌝ }
+    ensures { λ r. ⌜ r ≡ mortonOf (locationTile k) ⌝ }
 {
     k >> (u64::trailing_zeros(k) + 1)
 }
 
-// How many of `count` places are left when those above `start` are taken off the top.
-fn popped(places: &[u64], count: usize, start: u64) -> usize
-    requires { ⌜ count ≤ length (now places) ⌝ }
-    ensures { λ r. ⌜ Popped (now (places .entry)) start count r ⌝ }
+// How many of `count` locations are left when those above `start` are taken off the top.
+fn popped(locations: &[u64], count: usize, start: u64) -> usize
+    requires { ⌜ count ≤ length (now locations) ⌝ }
+    ensures { λ r. ⌜ Popped (now (locations .entry)) start count r ⌝ }
 {
     let mut left = count;
     while left > 0 {
-        if places[left - 1] <= start {
+        if locations[left - 1] <= start {
             return left;
         }
         left -= 1;
@@ -85,27 +86,27 @@ fn popped(places: &[u64], count: usize, start: u64) -> usize
     left
 }
 
-// k on top of `count` places, when each family that it completes has become its parent.
-fn joined(places: &[u64], count: usize, k: u64, m: u8) -> Top
-    requires { ⌜ Stand (now places) count k ⌝ }
-    ensures { λ r. ⌜ Joins m (now (places .entry)) (r .count) (r .place) count k ⌝ }
+// k on top of `count` locations, when each family that it completes has become its parent.
+fn joined(locations: &[u64], count: usize, k: u64, m: u8) -> Top
+    requires { ⌜ Stand (now locations) count k ⌝ }
+    ensures { λ r. ⌜ Joins m (now (locations .entry)) (r .count) (r .location) count k ⌝ }
 {
     let mut left = count;
     let mut top = k;
-    while family(places, left, top, m) {
+    while family(locations, left, top, m) {
         top -= 3 * quadtree::low_bit(top);
         left -= 3;
     }
     Top {
         count: left,
-        place: top,
+        location: top,
     }
 }
 
-// Whether k and the three places below it are the children of one tile, and deeper than zoom m.
-pub fn family(places: &[u64], count: usize, k: u64, m: u8) -> bool
-    requires { ⌜ Stand (now places) count k ⌝ }
-    ensures { λ r. ⌜ r ≡ true ↔ ((p : Tile) × Family m (tiles (now (places .entry))) count (placeTile k) p) ⌝ }
+// Whether k and the three locations below it are the children of one tile, and deeper than zoom m.
+pub fn family(locations: &[u64], count: usize, k: u64, m: u8) -> bool
+    requires { ⌜ Stand (now locations) count k ⌝ }
+    ensures { λ r. ⌜ r ≡ true ↔ ((p : Tile) × Family m (tiles (now (locations .entry))) count (locationTile k) p) ⌝ }
 {
     if count < 3 {
         return false;
@@ -113,15 +114,15 @@ pub fn family(places: &[u64], count: usize, k: u64, m: u8) -> bool
     if zoom(k) <= m {
         return false;
     }
-    if quad(k) % 4 != 3 {
+    if morton(k) % 4 != 3 {
         return false;
     }
     let step = 2 * quadtree::low_bit(k);
-    if places[count - 1] != k - step {
+    if locations[count - 1] != k - step {
         return false;
     }
-    if places[count - 2] != k - 2 * step {
+    if locations[count - 2] != k - 2 * step {
         return false;
     }
-    places[count - 3] == k - 3 * step
+    locations[count - 3] == k - 3 * step
 }

@@ -8,9 +8,10 @@ use native.Mathlib.Omega.{arith}
 use lib.ListN.{length, getD}
 use Rattle.bits.specs.Tests.{and-parts, allOf, all-in, in-all, getD-in, in-map}
 use Rattle.ids.specs.Entry.{entryTile, isEntry}
-use Rattle.quadtree.specs.Laws.{rank-small, rank-before, before-rank, place-inj}
+use Rattle.quadtree.specs.Laws.{rank-small, rank-before, before-rank, location-inj}
 use Rattle.quadtree.specs.Lists.{entryKey}
 use Rattle.quadtree.specs.Numbers.{OfMap, rankOf}
+use Rattle.quadtree.specs.declared.Key.the-variants.{Location}
 use Rattle.sort.specs.At.{in-at}
 use Rattle.sort.specs.Laws.{sort-in, insert-rising}
 use Rattle.sort.specs.Sort.{sortN, Rising}
@@ -71,21 +72,22 @@ rise-ordered (a ∷ l) e f = rw (first, rise-ordered l (rest-entries a l e) (λ 
         before-is (before-rank (entryTile a) (entryTile n) (tile-at (a ∷ l) e 0 (omega arith)) (entry-map (a ∷ l) e n (List·Memᴰ·tail m))
         (rw (s .2) at (f 0 (suc (s .0)) (omega arith) (omega (arith, s .1))))))
 
--- the places of tiles strictly in order are each of one tile, so that in their own order they rise
-pub places-rise : (list : List ℕ) → allOf isEntry list ≡ true → strictlyInOrder list ≡ true → Rising (sortN (map (entryKey true) list))
+-- the locations of tiles strictly in order are each of one tile, so that in their own order they rise
+pub locations-rise : (list : List ℕ) → allOf isEntry list ≡ true → strictlyInOrder list ≡ true → Rising (sortN (map (entryKey Location) list))
 unfolding sortN Rising
-places-rise [] e o = tt
-places-rise (a ∷ l) e o = insert-rising (entryKey true a) (sortN (map (entryKey true) l)) (places-rise l (rest-entries a l e) (parts a l o .1)) once
+locations-rise [] e o = tt
+locations-rise (a ∷ l) e o =
+    insert-rising (entryKey Location a) (sortN (map (entryKey Location) l)) (locations-rise l (rest-entries a l e) (parts a l o .1)) once
   where
-    once : List·Memᴰ (entryKey true a) (sortN (map (entryKey true) l)) → ⊥
+    once : List·Memᴰ (entryKey Location a) (sortN (map (entryKey Location) l)) → ⊥
     once m =
-        let s = in-map (entryKey true) l (sort-in (map (entryKey true) l) m) in
+        let s = in-map (entryKey Location) l (sort-in (map (entryKey Location) l) m) in
         let p = entry-map (a ∷ l) e a (List·Memᴰ·head refl) in
         let q = entry-map (a ∷ l) e (s .0) (List·Memᴰ·tail (s .1)) in
         omega (
           arith,
           rank-before (entryTile a) (entryTile (s .0)) p q (parts a l o .0 (s .0) (s .1)),
-          ap rankOf (place-inj (entryTile a) (entryTile (s .0)) p q (s .2)),
+          ap rankOf (location-inj (entryTile a) (entryTile (s .0)) p q (s .2)),
         )
 
 -- the first i ranks rise to `last`

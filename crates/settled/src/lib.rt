@@ -1,7 +1,8 @@
-// Whether a list is settled, by the places of its tiles along the quadtree.
+// Whether a list is settled, by the locations of its tiles along the quadtree.
 use constants::MAX_ENTRIES;
 use errors::BoolAnswer;
 use errors::Refusal;
+use quadtree::Key;
 use tile::Tile;
 use tile::TileAnswer;
 ghost use mathlib.Core.Path.{_≡_};
@@ -14,7 +15,8 @@ ghost use Rattle.constants.specs.Limits.{maxEntries};
 ghost use Rattle.errors.specs.Cases.{boolCase};
 ghost use Rattle.ids.specs.Entry.{isEntry};
 ghost use Rattle.quadtree.specs.Lists.{entryKey, TileNumbers};
-ghost use Rattle.quadtree.specs.Numbers.{OfMap, placeOf, rankOf};
+ghost use Rattle.quadtree.specs.Numbers.{OfMap, locationOf, rankOf};
+ghost use Rattle.quadtree.specs.declared.Key.the-variants.{Location};
 ghost use Rattle.settled.specs.Answers.{Lone, Tested, isSettledOf};
 ghost use Rattle.settled.specs.Settled.{strictlyInOrder};
 
@@ -52,20 +54,20 @@ pub fn strictly_in_order(list: &[u64]) -> bool
     true
 }
 
-// Whether the tiles of places lie apart, one behind the other, with no four siblings among them.
-pub fn apart(places: &[u64]) -> bool
-    requires { ⌜ TileNumbers placeOf (now places) ⌝ }
-    ensures { λ r. ⌜ Lone (now (places .entry)) r ⌝ }
+// Whether the tiles of locations lie apart, one behind the other, with no four siblings among them.
+pub fn apart(locations: &[u64]) -> bool
+    requires { ⌜ TileNumbers locationOf (now locations) ⌝ }
+    ensures { λ r. ⌜ Lone (now (locations .entry)) r ⌝ }
 {
     let mut end = 0;
     let mut i = 0;
-    while i < places.len() {
-        let k = places[i];
+    while i < locations.len() {
+        let k = locations[i];
         let low = quadtree::low_bit(k);
         if k - low < end {
             return false;
         }
-        if settle::family(places, i, k, 0) {
+        if settle::family(locations, i, k, 0) {
             return false;
         }
         end = k + low;
@@ -74,16 +76,16 @@ pub fn apart(places: &[u64]) -> bool
     true
 }
 
-// Puts the places of a list's tiles in order, by way of scratch of any length, and says whether the list is settled.
-pub fn settled(list: &[u64], places: &mut [u64], scratch: &mut [u64]) -> bool
-    requires { ⌜ (allOf isEntry (now list) ≡ true) × (now places ≡ map (entryKey true) (now list)) ⌝ }
-    ensures { λ r. ⌜ Tested (now (list .entry)) (now (places .exit)) r ⌝ }
+// Puts the locations of a list's tiles in order, by way of scratch of any length, and says whether the list is settled.
+pub fn settled(list: &[u64], locations: &mut [u64], scratch: &mut [u64]) -> bool
+    requires { ⌜ (allOf isEntry (now list) ≡ true) × (now locations ≡ map (entryKey Location) (now list)) ⌝ }
+    ensures { λ r. ⌜ Tested (now (list .entry)) (now (locations .exit)) r ⌝ }
 {
     if !strictly_in_order(list) {
         return false;
     }
-    exchange::sort(places, scratch);
-    apart(places)
+    exchange::sort(locations, scratch);
+    apart(locations)
 }
 
 // Whether a list is settled: strictly in order, no tile beside its own ancestor, no four siblings together.
@@ -93,7 +95,7 @@ pub fn is_settled(list: &[u64]) -> BoolAnswer
     run(list, 2)
 }
 
-// The memory for the places, and to sort them, is of the call's own and has to be cleared, so it is not much longer than the list: one size for
+// The memory for the locations, and to sort them, is of the call's own and has to be cleared, so it is not much longer than the list: one size for
 // short lists, and `longer` ones. Each stands in a function of its own. The compiler joins such a function to its caller, but not to a
 // caller that calls itself: so a short list does not pay for the stack of a long one.
 fn run(list: &[u64], longer: u8) -> BoolAnswer
@@ -123,9 +125,9 @@ fn short(list: &[u64]) -> BoolAnswer
     ensures { λ r. ⌜ boolCase r ≡ isSettledOf (now (list .entry)) ⌝ }
 {
     let n = list.len();
-    let mut places = [0u64; 64];
+    let mut locations = [0u64; 64];
     let mut scratch = [0u64; 64];
-    test_in(list, &mut places[..n], &mut scratch)
+    test_in(list, &mut locations[..n], &mut scratch)
 }
 
 fn middle(list: &[u64]) -> BoolAnswer
@@ -133,9 +135,9 @@ fn middle(list: &[u64]) -> BoolAnswer
     ensures { λ r. ⌜ boolCase r ≡ isSettledOf (now (list .entry)) ⌝ }
 {
     let n = list.len();
-    let mut places = [0u64; 4096];
+    let mut locations = [0u64; 4096];
     let mut scratch = [0u64; 4096];
-    test_in(list, &mut places[..n], &mut scratch)
+    test_in(list, &mut locations[..n], &mut scratch)
 }
 
 fn long(list: &[u64]) -> BoolAnswer
@@ -143,17 +145,17 @@ fn long(list: &[u64]) -> BoolAnswer
     ensures { λ r. ⌜ boolCase r ≡ isSettledOf (now (list .entry)) ⌝ }
 {
     let n = list.len();
-    let mut places = [0u64; MAX_ENTRIES];
+    let mut locations = [0u64; MAX_ENTRIES];
     let mut scratch = [0u64; MAX_ENTRIES];
-    test_in(list, &mut places[..n], &mut scratch)
+    test_in(list, &mut locations[..n], &mut scratch)
 }
 
-fn test_in(list: &[u64], places: &mut [u64], scratch: &mut [u64]) -> BoolAnswer
-    requires { ⌜ (length (now list) ≤ maxEntries) × (length (now list) ≡ length (now places)) ⌝ }
+fn test_in(list: &[u64], locations: &mut [u64], scratch: &mut [u64]) -> BoolAnswer
+    requires { ⌜ (length (now list) ≤ maxEntries) × (length (now list) ≡ length (now locations)) ⌝ }
     ensures { λ r. ⌜ boolCase r ≡ isSettledOf (now (list .entry)) ⌝ }
 {
-    if !quadtree::keys(list, places, true) {
+    if !quadtree::keys(list, locations, Key::Location) {
         return BoolAnswer::Refused(Refusal::NoTile);
     }
-    BoolAnswer::Told(settled(list, places, scratch))
+    BoolAnswer::Told(settled(list, locations, scratch))
 }

@@ -14,12 +14,13 @@ use Rattle.quadtree.specs.Numbers.{OfMap, rankOf, rankTile}
 use Rattle.quadtree.specs.Laws.{rank-tile, before-rank}
 use Rattle.sort.specs.Sort.{Rising, Once, sortN, onceOf}
 use Rattle.sort.specs.Laws.{in-sort, sort-in, in-once, once-in, once-rising}
+use Rattle.quadtree.specs.declared.Key.{Key}
 use Rattle.tile.specs.Order.{Before}
 use Rattle.tile.specs.declared.Tile.{Tile}
 use Rattle.tile_set.specs.Holds.{Valid}
 use Rattle.tile_set.specs.InOrder.{Ordered, in-order-is}
 use Rattle.tile_list.specs.Laws.{named-by, names, named-within}
-use Rattle.quadtree.specs.Places.{map-tile}
+use Rattle.quadtree.specs.Locations.{map-tile}
 use Rattle.tile_list.specs.List.{named, entriesInOrder, filled}
 
 -- tiles, by their ranks, as a list
@@ -74,38 +75,38 @@ module _ (ts : List Tile) (S : Tile → Bool) (of : (t : Tile) → List·Memᴰ 
           (into-map rankTile ranks (in-once (sortN (map rankOf ts)) (in-sort (map rankOf ts) (into-map rankOf ts m))))
 
 -- the keys of a set's tiles, finished, are the set as a list
-pub keys-finished : (placed : Bool) (keys : List ℕ) → TileNumbers (sortKey placed) keys
-    → finished (map (sortTile placed) keys) ≡ entriesInOrder (named (sortTile placed) keys)
-keys-finished placed keys h = finish-is (map (sortTile placed) keys) (named (sortTile placed) keys) of in'
+pub keys-finished : (by : Key) (keys : List ℕ) → TileNumbers (sortKey by) keys
+    → finished (map (sortTile by) keys) ≡ entriesInOrder (named (sortTile by) keys)
+keys-finished by keys h = finish-is (map (sortTile by) keys) (named (sortTile by) keys) of in'
   where
-    of : (t : Tile) → List·Memᴰ t (map (sortTile placed) keys) → OfMap t × (named (sortTile placed) keys t ≡ true)
+    of : (t : Tile) → List·Memᴰ t (map (sortTile by) keys) → OfMap t × (named (sortTile by) keys t ≡ true)
     of t m =
-        let s = in-map (sortTile placed) keys m in
-        let e = names (sortTile placed) keys (s .0) t (s .1) (sym (s .2)) in
-        (map-tile t (named-within placed keys h t e), e)
+        let s = in-map (sortTile by) keys m in
+        let e = names (sortTile by) keys (s .0) t (s .1) (sym (s .2)) in
+        (map-tile t (named-within by keys h t e), e)
 
-    in' : (t : Tile) → Valid maxZoom t → named (sortTile placed) keys t ≡ true → List·Memᴰ t (map (sortTile placed) keys)
-    in' t v e = let s = named-by (sortTile placed) keys t e in Memᴰ·cast (sym (s .2)) (into-map (sortTile placed) keys (s .1))
+    in' : (t : Tile) → Valid maxZoom t → named (sortTile by) keys t ≡ true → List·Memᴰ t (map (sortTile by) keys)
+    in' t v e = let s = named-by (sortTile by) keys t e in Memᴰ·cast (sym (s .2)) (into-map (sortTile by) keys (s .1))
 
 -- the steps of the code: ranks, in order, each once, and the first r of them as entries
-map-twice : (placed : Bool) (keys : List ℕ) → map rankOf (map (sortTile placed) keys) ≡ map (keyRank placed) keys
-map-twice placed [] = refl
-map-twice placed (k ∷ keys) = ap (λ (l : List ℕ). rankOf (sortTile placed k) ∷ l) (map-twice placed keys)
+map-twice : (by : Key) (keys : List ℕ) → map rankOf (map (sortTile by) keys) ≡ map (keyRank by) keys
+map-twice by [] = refl
+map-twice by (k ∷ keys) = ap (λ (l : List ℕ). rankOf (sortTile by k) ∷ l) (map-twice by keys)
 
-module _ (placed : Bool) (keys ranked sorted once : List ℕ) (r : ℕ) (h : TileNumbers (sortKey placed) keys)
-    (e : ranked ≡ map (keyRank placed) keys) (f : sorted ≡ sortN ranked) (o : Once sorted once r) where
-  front : take r once ≡ onceOf (sortN (map rankOf (map (sortTile placed) keys)))
-  front = o .front ∙ ap onceOf (f ∙ ap sortN (e ∙ sym (map-twice placed keys)))
+module _ (by : Key) (keys ranked sorted once : List ℕ) (r : ℕ) (h : TileNumbers (sortKey by) keys)
+    (e : ranked ≡ map (keyRank by) keys) (f : sorted ≡ sortN ranked) (o : Once sorted once r) where
+  front : take r once ≡ onceOf (sortN (map rankOf (map (sortTile by) keys)))
+  front = o .front ∙ ap onceOf (f ∙ ap sortN (e ∙ sym (map-twice by keys)))
 
   pub front-ranks : TileNumbers rankOf (take r once)
   front-ranks n m =
-      let s = in-map (keyRank placed) keys (sort-in _ (once-in _ (rw (o .front ∙ ap onceOf (f ∙ ap sortN e)) at m))) in
+      let s = in-map (keyRank by) keys (sort-in _ (once-in _ (rw (o .front ∙ ap onceOf (f ∙ ap sortN e)) at m))) in
       let u = h (s .0) (s .1) in
-      let g : sortTile placed (s .0) ≡ u .tile = ap (sortTile placed) (sym (u .number)) ∙ key-tile placed (u .tile) (u .on-map) in
+      let g : sortTile by (s .0) ≡ u .tile = ap (sortTile by) (sym (u .number)) ∙ key-tile by (u .tile) (u .on-map) in
       record { tile = u .tile; on-map = u .on-map; number = ap rankOf (sym g) ∙ sym (s .2) }
 
   pub front-entries : (part rest : List ℕ) → part ≡ map rankEntry (take r once)
-      → (r ≤ length (part ++ rest)) × (take r (part ++ rest) ≡ finished (map (sortTile placed) keys))
+      → (r ≤ length (part ++ rest)) × (take r (part ++ rest) ≡ finished (map (sortTile by) keys))
   front-entries part rest g = (rw (length-append part rest) (omega (arith, size)), take-at part rest r size ∙ (g ∙ ap (map rankEntry) front))
     where
       size : length part ≡ r
@@ -116,17 +117,17 @@ pub record Listed (S : Tile → Bool) (memory : List ℕ) (count : ℕ) : Type 0
   pub counted : count ≡ length (entriesInOrder S)
   pub left : memory ≡ entriesInOrder S ++ replicate (length memory - count) 0
 
-pub finish-listed : (placed : Bool) (keys part memory : List ℕ) (r : ℕ) (rest : List ℕ) → TileNumbers (sortKey placed) keys → r ≤ length part
-    → take r part ≡ finished (map (sortTile placed) keys)
-    → memory ≡ take r (part ++ rest) ++ replicate (length (part ++ rest) - r) 0 → Listed (named (sortTile placed) keys) memory r
-finish-listed placed keys part memory r rest h k e f = record {
+pub finish-listed : (by : Key) (keys part memory : List ℕ) (r : ℕ) (rest : List ℕ) → TileNumbers (sortKey by) keys → r ≤ length part
+    → take r part ≡ finished (map (sortTile by) keys)
+    → memory ≡ take r (part ++ rest) ++ replicate (length (part ++ rest) - r) 0 → Listed (named (sortTile by) keys) memory r
+finish-listed by keys part memory r rest h k e f = record {
   counted = sym (length-take-le r part k) ∙ ap length items;
   left = f ∙ (ap (λ (l : List ℕ). l ++ replicate (length (part ++ rest) - r) 0) (take-append-le r part rest k ∙ items)
-      ∙ ap (λ (n : ℕ). entriesInOrder (named (sortTile placed) keys) ++ replicate (n - r) 0) (sym size));
+      ∙ ap (λ (n : ℕ). entriesInOrder (named (sortTile by) keys) ++ replicate (n - r) 0) (sym size));
 }
   where
-    items : take r part ≡ entriesInOrder (named (sortTile placed) keys)
-    items = e ∙ keys-finished placed keys h
+    items : take r part ≡ entriesInOrder (named (sortTile by) keys)
+    items = e ∙ keys-finished by keys h
 
     size : length memory ≡ length (part ++ rest)
     size =

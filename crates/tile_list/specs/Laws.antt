@@ -13,9 +13,10 @@ use Rattle.errors.specs.Answer.{_when_, _else_}
 use Rattle.ids.specs.Entry.{entryTile, isEntry, accepted-entry}
 use Rattle.quadtree.specs.Lists.{sortKey, sortTile, entryKey, key-tile, TileNumbers}
 use Rattle.quadtree.specs.Numbers.{OfMap}
-use Rattle.quadtree.specs.Places.{valid-tile}
+use Rattle.quadtree.specs.Locations.{valid-tile}
 use Rattle.sort.specs.Laws.{in-sort, sort-in, in-once, once-in}
 use Rattle.sort.specs.Sort.{sortN, onceOf}
+use Rattle.quadtree.specs.declared.Key.{Key}
 use Rattle.tile.specs.Order.{tile-ext}
 use Rattle.tile.specs.declared.Tile.{Tile}
 use Rattle.tile_set.specs.Merged.{Within, bool-ext}
@@ -40,11 +41,11 @@ unfolding named
 names tile list n t m e = in-any (λ n. same (tile n) t) list m (tile-same (tile n) t e)
 
 -- the numbers of tiles of the map name tiles of the map
-pub named-within : (placed : Bool) (l : List ℕ) → TileNumbers (sortKey placed) l → Within maxZoom (named (sortTile placed) l)
-named-within placed l h t e =
-    let s = named-by (sortTile placed) l t e in
+pub named-within : (by : Key) (l : List ℕ) → TileNumbers (sortKey by) l → Within maxZoom (named (sortTile by) l)
+named-within by l h t e =
+    let s = named-by (sortTile by) l t e in
     let u = h (s .0) (s .1) in
-    let f : t ≡ u .tile = sym (s .2) ∙ (ap (sortTile placed) (sym (u .number)) ∙ key-tile placed (u .tile) (u .on-map)) in
+    let f : t ≡ u .tile = sym (s .2) ∙ (ap (sortTile by) (sym (u .number)) ∙ key-tile by (u .tile) (u .on-map)) in
     rw f (valid-tile (u .tile) (u .on-map))
 
 -- a list that is not refused is one of entries
@@ -89,9 +90,9 @@ pub once-numbers : (f : Tile → ℕ) (l : List ℕ) → TileNumbers f l → Til
 once-numbers f l h n m = h n (once-in l m)
 
 -- the keys of a list that is not refused name the tiles that the list names
-pub keys-named : (placed : Bool) (list : List ℕ) → allOf isEntry list ≡ true → named (sortTile placed) (map (entryKey placed) list) ≡ listed list
-keys-named placed list e =
-    same-named (sortTile placed) entryTile (map (entryKey placed) list) list
-    (λ k m. let s = in-map (entryKey placed) list m in
-    (s .0, s .1, sym (ap (sortTile placed) (s .2) ∙ key-tile placed (entryTile (s .0)) (entry-map list e (s .0) (s .1)))))
-    (λ n m. (entryKey placed n, into-map (entryKey placed) list m, key-tile placed (entryTile n) (entry-map list e n m)))
+pub keys-named : (by : Key) (list : List ℕ) → allOf isEntry list ≡ true → named (sortTile by) (map (entryKey by) list) ≡ listed list
+keys-named by list e =
+    same-named (sortTile by) entryTile (map (entryKey by) list) list
+    (λ k m. let s = in-map (entryKey by) list m in
+    (s .0, s .1, sym (ap (sortTile by) (s .2) ∙ key-tile by (entryTile (s .0)) (entry-map list e (s .0) (s .1)))))
+    (λ n m. (entryKey by n, into-map (entryKey by) list m, key-tile by (entryTile n) (entry-map list e n m)))

@@ -1,4 +1,5 @@
 // From the sort keys of a set's tiles to the set as a list in lent memory: entries in list order, each once, and 0 behind them.
+use quadtree::Key;
 ghost use mathlib.Core.Path.{_≡_};
 ghost use mathlib.Core.List.{map};
 ghost use Prim.Native.Nat.{_≤_};
@@ -9,21 +10,21 @@ ghost use Rattle.tile_list.specs.List.{named};
 
 // The first `count` keys become the list of their tiles. The answer says how many entries that is. Scratch may be of any length;
 // with a place for each key the sort is faster.
-pub fn finish(keys: &mut [u64], count: usize, scratch: &mut [u64], placed: bool) -> usize
+pub fn finish(keys: &mut [u64], count: usize, scratch: &mut [u64], by: Key) -> usize
     requires { ⌜ count ≤ length (now keys) ⌝ }
-    requires { ⌜ TileNumbers (sortKey placed) (take count (now keys)) ⌝ }
-    ensures { λ r. ⌜ Listed (named (sortTile placed) (take count (now (keys .entry)))) (now (keys .exit)) r ⌝ }
+    requires { ⌜ TileNumbers (sortKey by) (take count (now keys)) ⌝ }
+    ensures { λ r. ⌜ Listed (named (sortTile by) (take count (now (keys .entry)))) (now (keys .exit)) r ⌝ }
 {
-    let listed = entries(&mut keys[..count], scratch, placed);
+    let listed = entries(&mut keys[..count], scratch, by);
     sort::clear(keys, listed);
     listed
 }
 
-fn entries(keys: &mut [u64], scratch: &mut [u64], placed: bool) -> usize
-    requires { ⌜ TileNumbers (sortKey placed) (now keys) ⌝ }
-    ensures { λ r. ⌜ (r ≤ length (now (keys .exit))) × (take r (now (keys .exit)) ≡ finished (map (sortTile placed) (now (keys .entry)))) ⌝ }
+fn entries(keys: &mut [u64], scratch: &mut [u64], by: Key) -> usize
+    requires { ⌜ TileNumbers (sortKey by) (now keys) ⌝ }
+    ensures { λ r. ⌜ (r ≤ length (now (keys .exit))) × (take r (now (keys .exit)) ≡ finished (map (sortTile by) (now (keys .entry)))) ⌝ }
 {
-    quadtree::ranks(keys, placed);
+    quadtree::ranks(keys, by);
     exchange::sort(keys, scratch);
     let once = sort::once(keys);
     quadtree::entries(&mut keys[..once]);

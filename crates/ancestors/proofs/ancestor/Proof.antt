@@ -1,4 +1,4 @@
--- `ancestor`: a quad has two bits for each zoom.
+-- `ancestor`: a Morton code has two bits for each zoom.
 use Prim.Native.Nat.{_+_}
 use borrow.Author.Needs.{needs}
 use Rattle.ids.specs.Laws.{four-side}

@@ -1,7 +1,7 @@
 -- `end`: half a run behind its middle.
 use native.Mathlib.Omega.{arith}
 use borrow.Author.Needs.{needs}
-use Rattle.quadtree.specs.Places.{room}
+use Rattle.quadtree.specs.Locations.{room}
 use Rattle.ancestors.proofs.end.Statement.{statement}
 use Rattle.ancestors.proofs.end.Tie as tie
 

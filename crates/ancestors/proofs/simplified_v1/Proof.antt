@@ -4,8 +4,8 @@ use Rattle.ancestors.specs.Simplify.{still-listed}
 use Rattle.ancestors.proofs.simplified_v1.Statement.{statement}
 use Rattle.ancestors.proofs.simplified_v1.Tie as tie
 
-uncovered-quads-requires : tie.Need-uncovered-quads-requires
-uncovered-quads-requires c κs = search needs
+uncovered-codes-requires : tie.Need-uncovered-codes-requires
+uncovered-codes-requires c κs = search needs
 
 passes-requires : tie.Need-passes-requires
 passes-requires c κs = search needs
@@ -23,14 +23,14 @@ returns : tie.Need-returns
 returns c =
     let p = c .before .before .before .before .before .before .before .before .before .before .before in
     let u = p .before .before .before .before .before .before .before in
-    still-listed (u .before .before .before .before .before .args .places .now) (u .uncovered-quads .ensures)
+    still-listed (u .before .before .before .before .before .args .locations .now) (u .uncovered-codes .ensures)
     (p .passes .ensures) (c .before .before .before .before .finish .ensures)
 
 pub simplified-v1-spec : {M : Type 1} → statement M
 simplified-v1-spec =
     tie.close
     (tie.spec
-    uncovered-quads-requires
+    uncovered-codes-requires
     passes-requires
     finish-requires
     same-length

@@ -2,8 +2,8 @@
 use Prim.Native.Nat.{ℕ, _-_, _≤_, _<_}
 use native.Mathlib.Omega.{arith}
 use lib.ListN.{length}
-use Rattle.settle.specs.Middle.{place-at}
-use Rattle.quadtree.specs.Places.{endOf, tiles}
+use Rattle.settle.specs.Middle.{location-at}
+use Rattle.quadtree.specs.Locations.{endOf, tiles}
 use Rattle.ancestors.specs.Tops.{Ahead, ahead-more, passed-one}
 use Rattle.ancestors.proofs.top_of.Statement.{statement}
 use Rattle.ancestors.proofs.top_of.Tie as tie
@@ -27,7 +27,7 @@ end-requires : tie.Need-end-requires Inv-loop μ-loop
 end-requires c κs =
     let a = c .before .loop .inv .1 in
     let s = c .before .before .before in
-    place-at (s .args .tops .now) (s .pre .0) (c .before .loop .top) (omega (arith, a .later, a .within))
+    location-at (s .args .tops .now) (s .pre .0) (c .before .loop .top) (omega (arith, a .later, a .within))
 
 -- the run of the present top does not end behind k
 near : (c : tie.Then1 Inv-loop μ-loop)

@@ -5,23 +5,23 @@ use native.Mathlib.Omega.{arith}
 use borrow.Author.Needs.{needs}
 use lib.ListN.{length, getD}
 use Rattle.constants.specs.Limits.{maxZoom-small}
-use Rattle.quadtree.specs.Places.{IsPlace}
+use Rattle.quadtree.specs.Locations.{IsLocation}
 use Rattle.ancestors.specs.Laws.{Tested, untested, tested-more}
-use Rattle.ancestors.specs.Walk.{Walk, begun, top-place, next-place, next-ahead, skipped, kept, ended}
+use Rattle.ancestors.specs.Walk.{Walk, begun, top-location, next-location, next-ahead, skipped, kept, ended}
 use Rattle.ancestors.proofs.uncovered.Statement.{statement}
 use Rattle.ancestors.proofs.uncovered.Tie as tie
 
 abbrev Inv-loop : tie.InvT-loop
-Inv-loop places tops m count top i k highest quad steps₀ steps = Tested quad highest steps₀ steps
+Inv-loop locations tops m count top i k highest morton steps₀ steps = Tested morton highest steps₀ steps
 
 abbrev μ-loop : tie.MeasureT-loop
-μ-loop places tops m count top i k highest quad steps₀ steps = steps
+μ-loop locations tops m count top i k highest morton steps₀ steps = steps
 
 abbrev Inv-tiles : tie.InvT-tiles
-Inv-tiles places₀ tops m count₀ top₀ i₀ places count top i = Walk m places₀ tops places count top i
+Inv-tiles locations₀ tops m count₀ top₀ i₀ locations count top i = Walk m locations₀ tops locations count top i
 
 abbrev μ-tiles : tie.MeasureT-tiles
-μ-tiles places₀ tops m count₀ top₀ i₀ places count top i = length places₀ - i
+μ-tiles locations₀ tops m count₀ top₀ i₀ locations count top i = length locations₀ - i
 
 -- where a number has been read, and where the inner loop begins
 abbrev Read : Type 0
@@ -39,17 +39,17 @@ walk c = c .before .before
 abbrev start : Read → tie.Start Inv-loop μ-loop Inv-tiles μ-tiles
 start c = c .before .before .before .before .before
 
-more : (c : Read) → walk c .tiles .i < length (walk c .tiles .places)
+more : (c : Read) → walk c .tiles .i < length (walk c .tiles .locations)
 more c = c .before .tiles-test .taken
 
-place : (c : Read) → IsPlace (getD (walk c .tiles .places) (walk c .tiles .i) 0)
-place c = let s = start c .pre in next-place (s .0 .0) (s .0 .1) (s .1) (walk c .tiles .inv) (more c)
+location : (c : Read) → IsLocation (getD (walk c .tiles .locations) (walk c .tiles .i) 0)
+location c = let s = start c .pre in next-location (s .0 .0) (s .0 .1) (s .1) (walk c .tiles .inv) (more c)
 
 -- the front has room for one number more
-front : (c : Read) → walk c .tiles .count < length (walk c .tiles .places)
+front : (c : Read) → walk c .tiles .count < length (walk c .tiles .locations)
 front c = omega (arith, walk c .tiles .inv .order, more c)
 
-falls : (c : Read) → let n = length (start c .args .places .now) in n - (walk c .tiles .i + 1) < n - walk c .tiles .i
+falls : (c : Read) → let n = length (start c .args .locations .now) in n - (walk c .tiles .i + 1) < n - walk c .tiles .i
 falls c = omega (arith, walk c .tiles .inv .long, more c)
 
 tiles-holds : tie.Need-tiles-holds Inv-loop μ-loop Inv-tiles μ-tiles
@@ -69,20 +69,20 @@ top-of-requires c κs =
     let s = start c .pre in
     (s .1 .numbers, next-ahead (s .0 .0) (s .0 .1) (s .1) (walk c .tiles .inv) (more c))
 
-mul-quad : tie.Need-mul-quad Inv-loop μ-loop Inv-tiles μ-tiles
-mul-quad c = omega (arith, c .top-of .ensures .within)
+mul-morton : tie.Need-mul-morton Inv-loop μ-loop Inv-tiles μ-tiles
+mul-morton c = omega (arith, c .top-of .ensures .within)
 
-shared-slice-read-quad : tie.Need-shared-slice-read-quad Inv-loop μ-loop Inv-tiles μ-tiles
-shared-slice-read-quad c = c .before .top-of .ensures .within
+shared-slice-read-morton : tie.Need-shared-slice-read-morton Inv-loop μ-loop Inv-tiles μ-tiles
+shared-slice-read-morton c = c .before .top-of .ensures .within
 
-quad-requires : tie.Need-quad-requires Inv-loop μ-loop Inv-tiles μ-tiles
-quad-requires c κs = top-place (c .before .before .before .before .before .before .before .pre .1) (c .before .top-of .result) (c .before .top-of .ensures .within)
+morton-requires : tie.Need-morton-requires Inv-loop μ-loop Inv-tiles μ-tiles
+morton-requires c κs = top-location (c .before .before .before .before .before .before .before .pre .1) (c .before .top-of .result) (c .before .top-of .ensures .within)
 
-quad-requires-2 : tie.Need-quad-requires-2 Inv-loop μ-loop Inv-tiles μ-tiles
-quad-requires-2 c κs = place (c .before .before .before)
+morton-requires-2 : tie.Need-morton-requires-2 Inv-loop μ-loop Inv-tiles μ-tiles
+morton-requires-2 c κs = location (c .before .before .before)
 
 zoom-requires : tie.Need-zoom-requires Inv-loop μ-loop Inv-tiles μ-tiles
-zoom-requires c κs = place (c .before .before .before .before)
+zoom-requires c κs = location (c .before .before .before .before)
 
 loop-holds : tie.Need-loop-holds Inv-loop μ-loop Inv-tiles μ-tiles
 loop-holds c = untested
@@ -93,7 +93,7 @@ sub-steps c = search needs
 ancestor-requires : tie.Need-ancestor-requires Inv-loop μ-loop Inv-tiles μ-tiles
 ancestor-requires c κs =
     let b = c .before .before in
-    omega (arith, c .before .loop .inv .few, b .zoom .ensures, place (read b) .of-map .zoom, maxZoom-small)
+    omega (arith, c .before .loop .inv .few, b .zoom .ensures, location (read b) .of-map .zoom, maxZoom-small)
 
 tiles-less : tie.Need-tiles-less Inv-loop μ-loop Inv-tiles μ-tiles
 tiles-less c = falls (read (c .before .before .before .before))
@@ -105,7 +105,7 @@ tiles-again c =
     let I = c .before .before .before .loop in
     let deeper = c .before .before .loop-test .taken in
     skipped (s .0 .0) (s .0 .1) (s .1) (walk (read b) .tiles .inv) (more (read b)) (b .before .before .before .before .top-of .ensures)
-    (b .before .quad2 .ensures) (b .before .before .quad .ensures) (b .zoom .ensures)
+    (b .before .morton2 .ensures) (b .before .before .morton .ensures) (b .zoom .ensures)
     (I .steps - 1) (omega (arith, deeper)) (omega (arith, deeper, I .inv .few)) (sym (c .before .ancestor .ensures) ∙ c .if1 .taken)
 
 loop-less : tie.Need-loop-less Inv-loop μ-loop Inv-tiles μ-tiles
@@ -115,11 +115,11 @@ loop-again : tie.Need-loop-again Inv-loop μ-loop Inv-tiles μ-tiles
 loop-again c =
     tested-more (c .before .before .before .loop .inv) (omega (arith, c .before .before .loop-test .taken)) (λ e. c .if1 .left (c .before .ancestor .ensures ∙ e))
 
-mul-places : tie.Need-mul-places Inv-loop μ-loop Inv-tiles μ-tiles
-mul-places c = omega (arith, front (read (c .before .before)))
+mul-locations : tie.Need-mul-locations Inv-loop μ-loop Inv-tiles μ-tiles
+mul-locations c = omega (arith, front (read (c .before .before)))
 
-slice-write-places : tie.Need-slice-write-places Inv-loop μ-loop Inv-tiles μ-tiles
-slice-write-places c = front (read (c .before .before))
+slice-write-locations : tie.Need-slice-write-locations Inv-loop μ-loop Inv-tiles μ-tiles
+slice-write-locations c = front (read (c .before .before))
 
 add-count : tie.Need-add-count Inv-loop μ-loop Inv-tiles μ-tiles
 add-count c = omega (arith, front (read (c .before .before)))
@@ -133,7 +133,7 @@ tiles-again-2 c =
     let s = start (read b) .pre in
     let I = c .before .loop in
     kept (s .0 .0) (s .0 .1) (s .1) (walk (read b) .tiles .inv) (more (read b)) (b .before .before .before .before .top-of .ensures)
-    (b .before .quad2 .ensures) (b .before .before .quad .ensures) (b .zoom .ensures) (I .steps) (c .loop-test .left) (I .inv)
+    (b .before .morton2 .ensures) (b .before .before .morton .ensures) (b .zoom .ensures) (I .steps) (c .loop-test .left) (I .inv)
 
 same-length : tie.Need-same-length Inv-loop μ-loop Inv-tiles μ-tiles
 same-length c = c .before .tiles .inv .long
@@ -154,10 +154,10 @@ uncovered-spec =
     slice-read-k
     add-i
     top-of-requires
-    mul-quad
-    shared-slice-read-quad
-    quad-requires
-    quad-requires-2
+    mul-morton
+    shared-slice-read-morton
+    morton-requires
+    morton-requires-2
     zoom-requires
     loop-holds
     sub-steps
@@ -166,8 +166,8 @@ uncovered-spec =
     tiles-again
     loop-less
     loop-again
-    mul-places
-    slice-write-places
+    mul-locations
+    slice-write-locations
     add-count
     tiles-less-2
     tiles-again-2

@@ -1,4 +1,4 @@
--- `join` makes the tiles of both lists' places, and the list of them.
+-- `join` makes the tiles of both lists' locations, and the list of them.
 use mathlib.Core.Path.{sym, _∙_}
 use Rattle.area.specs.Ends.{front-length, front-parted, made-listed}
 use borrow.Author.Needs.{needs}

@@ -18,10 +18,10 @@ returns : tie.Need-returns
 returns c =
     let a = c .before .before .before .before .before .before .before .args in
     let u = c .before .before .united in
-    subst (λ b. Made b (take (a .n) (a .places .now)) (drop (a .n) (a .places .now)) (u .last .1 .1 .0) (u .result)) (sym (c .before .before .before .before .if1 .taken)) (u .ensures)
+    subst (λ b. Made b (take (a .n) (a .locations .now)) (drop (a .n) (a .locations .now)) (u .last .1 .1 .0) (u .result)) (sym (c .before .before .before .before .if1 .taken)) (u .ensures)
 
 slice-aggregate-common : tie.Need-slice-aggregate-common
-slice-aggregate-common c = let s = c .before .before .before .before in sym (length-take-le (s .args .n) (s .args .places .now) (s .pre .0 .within))
+slice-aggregate-common c = let s = c .before .before .before .before in sym (length-take-le (s .args .n) (s .args .locations .now) (s .pre .0 .within))
 
 mul-common : tie.Need-mul-common
 mul-common c = search needs
@@ -36,7 +36,7 @@ part-common-end : tie.Need-part-common-end
 part-common-end c = search needs
 
 common-requires : tie.Need-common-requires
-common-requires c κs = let s = c .before .before .before .before .before .before in parted-common (s .args .places .now) (s .args .n) (s .pre .0) (s .args .out .now) (s .pre .1)
+common-requires c κs = let s = c .before .before .before .before .before .before in parted-common (s .args .locations .now) (s .args .n) (s .pre .0) (s .args .out .now) (s .pre .1)
 
 same-length-2 : tie.Need-same-length-2
 same-length-2 c = search needs
@@ -45,8 +45,8 @@ returns-2 : tie.Need-returns-2
 returns-2 c =
     let a = c .before .before .before .before .before .before .before .before .before .args in
     let u = c .before .before .common in
-    subst (λ b. Made b (take (a .n) (a .places .now)) (drop (a .n) (a .places .now)) (u .last .1 .1 .0) (u .result))
-    (sym (c .before .before .before .before .before .before .if1 .left)) (common-made (a .places .now) (a .n) (u .ensures))
+    subst (λ b. Made b (take (a .n) (a .locations .now)) (drop (a .n) (a .locations .now)) (u .last .1 .1 .0) (u .result))
+    (sym (c .before .before .before .before .before .before .if1 .left)) (common-made (a .locations .now) (a .n) (u .ensures))
 
 pub made-spec : {M : Type 1} → statement M
 made-spec =

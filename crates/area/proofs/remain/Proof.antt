@@ -7,7 +7,7 @@ use Rattle.area.proofs.remain.Statement.{statement}
 use Rattle.area.proofs.remain.Tie as tie
 
 slice-aggregate-left : tie.Need-slice-aggregate-left
-slice-aggregate-left c = let s = c .before .before .before in sym (length-take-le (s .args .n) (s .args .places .now) (s .pre .within))
+slice-aggregate-left c = let s = c .before .before .before in sym (length-take-le (s .args .n) (s .args .locations .now) (s .pre .within))
 
 mul-left : tie.Need-mul-left
 mul-left c = search needs
@@ -22,7 +22,7 @@ part-left-end : tie.Need-part-left-end
 part-left-end c = search needs
 
 left-requires : tie.Need-left-requires
-left-requires c κs = let s = c .before .before .before .before .before in parted-left (s .args .places .now) (s .args .n) (s .pre)
+left-requires c κs = let s = c .before .before .before .before .before in parted-left (s .args .locations .now) (s .args .n) (s .pre)
 
 same-length : tie.Need-same-length
 same-length c = search needs
@@ -30,7 +30,7 @@ same-length c = search needs
 returns : tie.Need-returns
 returns c =
     let s = c .before .before .before .before .before .before .before .before in
-    tail-left (s .args .places .now) (s .args .n) (c .before .before .left .ensures .0) (c .before .before .left .ensures .1)
+    tail-left (s .args .locations .now) (s .args .n) (c .before .before .left .ensures .0) (c .before .before .left .ensures .1)
 
 pub remain-spec : {M : Type 1} → statement M
 remain-spec =

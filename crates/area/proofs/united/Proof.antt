@@ -7,7 +7,7 @@ use Rattle.area.proofs.united.Statement.{statement}
 use Rattle.area.proofs.united.Tie as tie
 
 slice-aggregate-merge : tie.Need-slice-aggregate-merge
-slice-aggregate-merge c = let s = c .before .before .before in sym (length-take-le (s .args .n) (s .args .places .now) (s .pre .0 .within))
+slice-aggregate-merge c = let s = c .before .before .before in sym (length-take-le (s .args .n) (s .args .locations .now) (s .pre .0 .within))
 
 mul-merge : tie.Need-mul-merge
 mul-merge c = search needs
@@ -22,11 +22,11 @@ part-merge-end : tie.Need-part-merge-end
 part-merge-end c = search needs
 
 merge-requires : tie.Need-merge-requires
-merge-requires c κs = let s = c .before .before .before .before .before in parted-merge (s .args .places .now) (s .args .n) (s .pre .0) (s .args .out .now) (s .pre .1)
+merge-requires c κs = let s = c .before .before .before .before .before in parted-merge (s .args .locations .now) (s .args .n) (s .pre .0) (s .args .out .now) (s .pre .1)
 
 settle-requires : tie.Need-settle-requires
 settle-requires c κs = let s = c .before .before .before .before .before .before .before .before .before in
-    merged-ready (s .args .places .now) (s .args .n) (s .pre .0) (c .before .before .before .merge .ensures)
+    merged-ready (s .args .locations .now) (s .args .n) (s .pre .0) (c .before .before .before .merge .ensures)
 
 same-length : tie.Need-same-length
 same-length c = search needs
@@ -34,7 +34,7 @@ same-length c = search needs
 returns : tie.Need-returns
 returns c =
     let s = c .before .before .before .before .before .before .before .before .before .before .before .before in
-    merged-made (s .args .places .now) (s .args .n) (s .pre .0) (c .before .before .before .before .before .before .merge .ensures)
+    merged-made (s .args .locations .now) (s .args .n) (s .pre .0) (c .before .before .before .before .before .before .merge .ensures)
     (c .before .before .settle .ensures)
 
 pub united-spec : {M : Type 1} → statement M

@@ -6,7 +6,7 @@ use native.Mathlib.Omega.{arith}
 use lib.ListN.{length, getD, length-set}
 use borrow.Author.Needs.{needs}
 use borrow.Author.Tests.{ltb-true, ltb-false}
-use Rattle.quadtree.specs.Places.{IsPlace, room}
+use Rattle.quadtree.specs.Locations.{IsLocation, room}
 use Rattle.common.specs.Walk.{Walked, begun, turned, over, inside, nested, ended}
 use Rattle.common.proofs.common.Statement.{statement}
 use Rattle.common.proofs.common.Tie as tie
@@ -32,32 +32,32 @@ mul-q c = search needs
 shared-slice-read-q : tie.Need-shared-slice-read-q Inv-loop μ-loop
 shared-slice-read-q c = search needs
 
--- the two places that are read
+-- the two locations that are read
 in-a : (c : tie.After-shared-slice-known4 Inv-loop μ-loop) → c .before .before .before .before .loop .i < length (c .before .before .before .before .before .before .before .before .args .a .now)
 in-a c = c .before .before .before .loop-test .taken
 
 in-b : (c : tie.After-shared-slice-known4 Inv-loop μ-loop) → c .before .before .before .before .loop .j < length (c .before .before .before .before .before .before .before .before .args .b .now)
 in-b c = omega (arith, ltb-true)
 
-place-a : (c : tie.After-shared-slice-known4 Inv-loop μ-loop)
-    → IsPlace (getD (c .before .before .before .before .before .before .before .before .args .a .now) (c .before .before .before .before .loop .i) 0)
-place-a c = c .before .before .before .before .before .before .before .before .pre .0 .each _ (in-a c)
+location-a : (c : tie.After-shared-slice-known4 Inv-loop μ-loop)
+    → IsLocation (getD (c .before .before .before .before .before .before .before .before .args .a .now) (c .before .before .before .before .loop .i) 0)
+location-a c = c .before .before .before .before .before .before .before .before .pre .0 .each _ (in-a c)
 
-place-b : (c : tie.After-shared-slice-known4 Inv-loop μ-loop)
-    → IsPlace (getD (c .before .before .before .before .before .before .before .before .args .b .now) (c .before .before .before .before .loop .j) 0)
-place-b c = c .before .before .before .before .before .before .before .before .pre .1 .each _ (in-b c)
+location-b : (c : tie.After-shared-slice-known4 Inv-loop μ-loop)
+    → IsLocation (getD (c .before .before .before .before .before .before .before .before .args .b .now) (c .before .before .before .before .loop .j) 0)
+location-b c = c .before .before .before .before .before .before .before .before .pre .1 .each _ (in-b c)
 
 low-bit-requires : tie.Need-low-bit-requires Inv-loop μ-loop
-low-bit-requires c κs = place-a c
+low-bit-requires c κs = location-a c
 
 low-bit-requires-2 : tie.Need-low-bit-requires-2 Inv-loop μ-loop
-low-bit-requires-2 c κs = place-b (c .before)
+low-bit-requires-2 c κs = location-b (c .before)
 
 add-if2 : tie.Need-add-if2 Inv-loop μ-loop
-add-if2 c = omega (arith, room (place-a (c .before .before)) (c .before .low-bit .ensures) .fits)
+add-if2 c = omega (arith, room (location-a (c .before .before)) (c .before .low-bit .ensures) .fits)
 
 sub-if2 : tie.Need-sub-if2 Inv-loop μ-loop
-sub-if2 c = room (place-b (c .before .before)) (c .low-bit2 .ensures) .below
+sub-if2 c = room (location-b (c .before .before)) (c .low-bit2 .ensures) .below
 
 add-i : tie.Need-add-i Inv-loop μ-loop
 add-i c = search needs
@@ -70,17 +70,17 @@ loop-again c =
     let read = c .before .before .before in
     let w = read .before .before .before .before .loop .inv in
     let runs = read .before .before .before .before .before .before .before .before .pre in
-    let pa = place-a read in
-    let pb = place-b read in
+    let pa = location-a read in
+    let pb = location-b read in
     let la = c .before .before .low-bit .ensures in
     let lb = c .before .low-bit2 .ensures in
     (w .0, over (runs .0) (runs .1) (w .1) (in-a read) (in-b read) (omega (arith, c .if2 .taken, pa .again, pb .again, la, lb)))
 
 add-if3 : tie.Need-add-if3 Inv-loop μ-loop
-add-if3 c = omega (arith, room (place-b (c .before .before .before)) (c .before .low-bit2 .ensures) .fits)
+add-if3 c = omega (arith, room (location-b (c .before .before .before)) (c .before .low-bit2 .ensures) .fits)
 
 sub-if3 : tie.Need-sub-if3 Inv-loop μ-loop
-sub-if3 c = room (place-a (c .before .before .before)) (c .before .before .low-bit .ensures) .below
+sub-if3 c = room (location-a (c .before .before .before)) (c .before .before .low-bit .ensures) .below
 
 add-j : tie.Need-add-j Inv-loop μ-loop
 add-j c = search needs
@@ -93,8 +93,8 @@ loop-again-2 c =
     let read = c .before .before .before .before in
     let w = read .before .before .before .before .loop .inv in
     let runs = read .before .before .before .before .before .before .before .before .pre in
-    let pa = place-a read in
-    let pb = place-b read in
+    let pa = location-a read in
+    let pb = location-b read in
     let la = c .before .before .before .low-bit .ensures in
     let lb = c .before .before .low-bit2 .ensures in
     (w .0, turned (over (runs .1) (runs .0) (turned (w .1)) (in-b read) (in-a read) (omega (arith, c .if3 .taken, pa .again, pb .again, la, lb))))
@@ -119,8 +119,8 @@ loop-again-3 c =
     let read = c .before .before .before .before .before in
     let w = read .before .before .before .before .loop .inv in
     let runs = read .before .before .before .before .before .before .before .before .pre in
-    let pa = place-a read in
-    let pb = place-b read in
+    let pa = location-a read in
+    let pb = location-b read in
     let la = c .before .before .before .before .low-bit .ensures in
     let lb = c .before .before .before .low-bit2 .ensures in (
       rw length-set (w .0),
@@ -148,8 +148,8 @@ loop-again-4 c =
     let read = c .before .before .before .before .before in
     let w = read .before .before .before .before .loop .inv in
     let runs = read .before .before .before .before .before .before .before .before .pre in
-    let pa = place-a read in
-    let pb = place-b read in
+    let pa = location-a read in
+    let pb = location-b read in
     let la = c .before .before .before .before .low-bit .ensures in
     let lb = c .before .before .before .low-bit2 .ensures in (
       rw length-set (w .0),

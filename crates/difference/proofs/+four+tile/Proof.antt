@@ -6,8 +6,8 @@ use native.Mathlib.Omega.{arith}
 use borrow.Fn.Kinds.{In}
 use borrow.Fn.PlainCycle.{Measures, is, falls, and}
 use Rattle.constants.specs.Limits.{maxZoom}
-use Rattle.quadtree.specs.Numbers.{placeTile}
-use Rattle.quadtree.specs.Places.{Room, room}
+use Rattle.quadtree.specs.Numbers.{locationTile}
+use Rattle.quadtree.specs.Locations.{Room, room}
 use Rattle.difference.specs.Steps.{passed-on, kept-clear, dropped, handing, handed}
 use Rattle.difference.specs.Steps.{childAt, AtChild, around, before-children, steps, fewer-levels, at-child, child-walked, children-walked}
 use Rattle.difference.specs.Walk.{AtTile, Clear, wrote-length}
@@ -26,10 +26,10 @@ use Rattle.difference.proofs.+four+tile.Tie.{close}
 
 -- twice the levels below the tile, and one less for its children together
 abbrev μ-four : Measures 2 four-kinds.ps ℕ
-μ-four κs a = 2 * (maxZoom - placeTile (a .0) .z) - 1
+μ-four κs a = 2 * (maxZoom - locationTile (a .0) .z) - 1
 
 abbrev μ-tile : Measures 2 tile-kinds.ps ℕ
-μ-tile κs a = 2 * (maxZoom - placeTile (a .0) .z)
+μ-tile κs a = 2 * (maxZoom - locationTile (a .0) .z)
 
 abbrev four-at : ℕ → In 2 four-kinds.ps
 four-at t = and 2 four-kinds.ps (is 2 four-kinds.ps μ-four t) four.Pre
@@ -70,7 +70,7 @@ here : (t : ℕ) (c : Children t)
 here t c = let L = c .before .loop in at-child (c .before .before .before .before .pre .1) (L .i) (turn t c) (L .inv)
 
 child-room : (t : ℕ) (c : Children t) → let a = c .before .before .before .before .args in Room (childAt (a .k) (a .quarter) (c .before .loop .i)) (a .quarter)
-child-room t c = room (here t c .place) (here t c .half)
+child-room t c = room (here t c .location) (here t c .half)
 
 four-loop-holds : (t : ℕ) → four-lts.Need-loop-holds (four-calls t) (four-at t) four.Post four-Inv-loop four-μ-loop
 four-loop-holds t c = before-children (c .before .before .pre .1) (c .before .before .args .out .now)
@@ -131,7 +131,7 @@ abbrev Tiles : ℕ → Type 0
 Tiles t = tile-lts.Start (tile-calls t) (tile-at t) tile.Post
 
 tile-room : (t : ℕ) (s : Tiles t) → Room (s .args .k) (s .args .low)
-tile-room t s = room (s .pre .1 .place) (s .pre .1 .half)
+tile-room t s = room (s .pre .1 .location) (s .pre .1 .half)
 
 -- the tile where the walk stands when others are passed
 stands : (t : ℕ) (c : tile-lts.After-passed (tile-calls t) (tile-at t) tile.Post)

@@ -33,7 +33,7 @@ tile-requires c κs =
     let h = c .before .before .before .loop-test .taken in
     let p = s .pre .0 .each (L .i) h in
     let e = c .before .low-bit .ensures in
-    record { place = p; half = e; runs = s .pre .1; come = come-on (L .inv .come (L .i) (omega arith) h) (omega (arith, e, p .again)) }
+    record { location = p; half = e; runs = s .pre .1; come = come-on (L .inv .come (L .i) (omega arith) h) (omega (arith, e, p .again)) }
 
 add-i : tie.Need-add-i Inv-loop μ-loop
 add-i c = search needs

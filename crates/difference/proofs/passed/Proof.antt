@@ -3,7 +3,7 @@ use Prim.Native.Nat.{_-_}
 use native.Mathlib.Omega.{arith}
 use borrow.Author.Needs.{needs}
 use lib.ListN.{length, getD}
-use Rattle.quadtree.specs.Places.{IsPlace, room}
+use Rattle.quadtree.specs.Locations.{IsLocation, room}
 use Rattle.difference.specs.Walk.{Behind, behind-more}
 use Rattle.difference.proofs.passed.Statement.{statement}
 use Rattle.difference.proofs.passed.Tie as tie
@@ -17,10 +17,10 @@ abbrev μ-loop : tie.MeasureT-loop
 loop-holds : tie.Need-loop-holds Inv-loop μ-loop
 loop-holds c = c .before .pre .1
 
--- the place that is read
-place : (c : tie.After-shared-slice-known2 Inv-loop μ-loop)
-    → IsPlace (getD (c .before .before .before .before .args .gone .now) (c .before .before .loop .next) 0)
-place c = c .before .before .before .before .pre .0 .each (c .before .before .loop .next) (c .before .loop-test .taken)
+-- the location that is read
+location : (c : tie.After-shared-slice-known2 Inv-loop μ-loop)
+    → IsLocation (getD (c .before .before .before .before .args .gone .now) (c .before .before .loop .next) 0)
+location c = c .before .before .before .before .pre .0 .each (c .before .before .loop .next) (c .before .loop-test .taken)
 
 mul-g : tie.Need-mul-g Inv-loop μ-loop
 mul-g c = search needs
@@ -29,15 +29,15 @@ shared-slice-read-g : tie.Need-shared-slice-read-g Inv-loop μ-loop
 shared-slice-read-g c = search needs
 
 low-bit-requires : tie.Need-low-bit-requires Inv-loop μ-loop
-low-bit-requires c κs = place c
+low-bit-requires c κs = location c
 
 add-if1 : tie.Need-add-if1 Inv-loop μ-loop
-add-if1 c = omega (arith, room (place (c .before)) (c .low-bit .ensures) .fits)
+add-if1 c = omega (arith, room (location (c .before)) (c .low-bit .ensures) .fits)
 
 returns : tie.Need-returns Inv-loop μ-loop
 returns c =
     let b = c .before in
-    (b .before .before .before .loop .inv, λ h. omega (arith, place (b .before) .again, b .low-bit .ensures, c .if1 .taken))
+    (b .before .before .before .loop .inv, λ h. omega (arith, location (b .before) .again, b .low-bit .ensures, c .if1 .taken))
 
 add-next : tie.Need-add-next Inv-loop μ-loop
 add-next c = search needs
@@ -49,7 +49,7 @@ loop-again : tie.Need-loop-again Inv-loop μ-loop
 loop-again c =
     let b = c .before in
     behind-more (b .before .before .before .loop .inv) (b .before .before .loop-test .taken)
-    (omega (arith, place (b .before) .again, b .low-bit .ensures, c .if1 .left))
+    (omega (arith, location (b .before) .again, b .low-bit .ensures, c .if1 .left))
 
 returns-2 : tie.Need-returns-2 Inv-loop μ-loop
 returns-2 c = (c .before .loop .inv, λ h. absurd (omega (arith, c .loop-test .left)))

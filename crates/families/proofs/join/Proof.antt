@@ -46,10 +46,10 @@ unfolding joinAfter
 ended from s₀ s count i M h = rw (drop-of-length-le s h, append-nil (take count s)) at (M .done)
 
 abbrev Inv-loop : tie.InvT-loop
-Inv-loop quads₀ from count₀ i₀ quads count i = Mid from quads₀ quads count i
+Inv-loop codes₀ from count₀ i₀ codes count i = Mid from codes₀ codes count i
 
 abbrev μ-loop : tie.MeasureT-loop
-μ-loop quads₀ from count₀ i₀ quads count i = length quads₀ - i
+μ-loop codes₀ from count₀ i₀ codes count i = length codes₀ - i
 
 loop-holds : tie.Need-loop-holds Inv-loop μ-loop
 loop-holds c = record { order = omega arith; within = omega arith; long = refl; done = refl }
@@ -63,20 +63,20 @@ slice-read-q c = search needs
 family-at-requires : tie.Need-family-at-requires Inv-loop μ-loop
 family-at-requires c κs = search needs
 
-mul-quads : tie.Need-mul-quads Inv-loop μ-loop
-mul-quads c = search needs
+mul-codes : tie.Need-mul-codes Inv-loop μ-loop
+mul-codes c = search needs
 
-slice-write-quads : tie.Need-slice-write-quads Inv-loop μ-loop
-slice-write-quads c = search needs
+slice-write-codes : tie.Need-slice-write-codes Inv-loop μ-loop
+slice-write-codes c = search needs
 
 add-i : tie.Need-add-i Inv-loop μ-loop
 add-i c = search needs
 
-mul-quads-2 : tie.Need-mul-quads-2 Inv-loop μ-loop
-mul-quads-2 c = search needs
+mul-codes-2 : tie.Need-mul-codes-2 Inv-loop μ-loop
+mul-codes-2 c = search needs
 
-slice-write-quads-2 : tie.Need-slice-write-quads-2 Inv-loop μ-loop
-slice-write-quads-2 c = search needs
+slice-write-codes-2 : tie.Need-slice-write-codes-2 Inv-loop μ-loop
+slice-write-codes-2 c = search needs
 
 add-i-2 : tie.Need-add-i-2 Inv-loop μ-loop
 add-i-2 c = search needs
@@ -100,9 +100,9 @@ loop-again c =
     let L = c .before .before .before .before .before .loop in
     let lt = c .before .before .before .before .loop-test .taken in
     let f = c .before .family-at .ensures in
-    let s₀ : List ℕ = start .args .quads .now in
-    let one = joined (start .args .from) s₀ (L .quads) (L .count) (L .i) (L .inv) lt in
-    let two = kept (start .args .from) s₀ (L .quads) (L .count) (L .i) (L .inv) lt in
+    let s₀ : List ℕ = start .args .codes .now in
+    let one = joined (start .args .from) s₀ (L .codes) (L .count) (L .i) (L .inv) lt in
+    let two = kept (start .args .from) s₀ (L .codes) (L .count) (L .i) (L .inv) lt in
     ⊎-elim
     (λ w. rw (w .1, w .2) (one (sym f ∙ w .0 .taken)))
     (λ w. rw (w .1, w .2) (two (sym f ∙ w .0 .left)))
@@ -116,7 +116,7 @@ returns c =
     let L = c .before .loop in
     let a = c .before .before .before .args in
     let M = L .inv in
-    (omega (arith, M .order, M .within), ended (a .from) (a .quads .now) (L .quads) (L .count) (L .i) M (c .loop-test .left))
+    (omega (arith, M .order, M .within), ended (a .from) (a .codes .now) (L .codes) (L .count) (L .i) M (c .loop-test .left))
 
 pub join-spec : {M : Type 1} → statement M
 join-spec =
@@ -128,11 +128,11 @@ join-spec =
     mul-q
     slice-read-q
     family-at-requires
-    mul-quads
-    slice-write-quads
+    mul-codes
+    slice-write-codes
     add-i
-    mul-quads-2
-    slice-write-quads-2
+    mul-codes-2
+    slice-write-codes-2
     add-i-2
     add-count
     loop-less

@@ -1,6 +1,6 @@
--- `merged`: quads in order, one pass, and the set as a list.
+-- `merged`: Morton codes in order, one pass, and the set as a list.
 use Rattle.families.specs.Pass.{passed-merges}
-use Rattle.quadtree.specs.Numbers.{quadOf}
+use Rattle.quadtree.specs.Numbers.{mortonOf}
 use Rattle.sort.specs.Laws.{sorted-by}
 use Rattle.tile_list.specs.Laws.{sort-numbers}
 use borrow.Author.Needs.{needs}
@@ -12,9 +12,9 @@ sort-into-requires c κs = search needs
 
 pass-requires : tie.Need-pass-requires
 pass-requires c κs =
-    let l = c .before .before .before .before .before .before .before .before .before .before .args .quads .now in
+    let l = c .before .before .before .before .before .before .before .before .before .before .args .codes .now in
     rw (c .before .before .before .before .before .sort-into .ensures)
-    (sort-numbers quadOf l (c .before .before .before .before .before .before .before .before .before .before .pre .0), sorted-by l)
+    (sort-numbers mortonOf l (c .before .before .before .before .before .before .before .before .before .before .pre .0), sorted-by l)
 
 finish-requires : tie.Need-finish-requires
 finish-requires c κs = search needs
@@ -30,7 +30,7 @@ returns c =
     let finished = c .before .before .before .before in
     let passed = finished .before .before .before .before .before in
     let sorted = passed .before .before .before .before .before .before in
-    passed-merges (sorted .before .before .before .before .before .args .quads .now) (rw (sorted .sort-into .ensures) at (passed .pass .ensures)) (finished .finish .ensures)
+    passed-merges (sorted .before .before .before .before .before .args .codes .now) (rw (sorted .sort-into .ensures) at (passed .pass .ensures)) (finished .finish .ensures)
 
 pub merged-spec : {M : Type 1} → statement M
 merged-spec =

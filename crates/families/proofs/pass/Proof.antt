@@ -1,11 +1,11 @@
--- `pass` leaves what the pure pass over the quads, each once, leaves.
+-- `pass` leaves what the pure pass over the Morton codes, each once, leaves.
 use mathlib.Core.Path.{sym, ap, _∙_}
 use mathlib.Core.List.{_++_}
 use Prim.Native.Nat.{ℕ}
 use native.Mathlib.Omega.{arith}
 use lib.ListN.{length, take, drop, length-append}
 use lib.Seq.{take-append-le, length-take-le}
-use Rattle.families.specs.Join.{firstQuad, joinOf}
+use Rattle.families.specs.Join.{firstMorton, joinOf}
 use Rattle.families.specs.Once.{passed}
 use borrow.Author.Needs.{needs}
 use Rattle.families.proofs.pass.Statement.{statement}
@@ -20,8 +20,8 @@ slice-relend-prefix-join c = search needs
 slice-aggregate-join : tie.Need-slice-aggregate-join
 slice-aggregate-join c = let o = c .before .before .before .once .ensures in sym (length-take-le _ (c .before .before .before .once .last .0) (o .within))
 
-first-quad-requires : tie.Need-first-quad-requires
-first-quad-requires c κs = search needs
+first-morton-requires : tie.Need-first-morton-requires
+first-morton-requires c κs = search needs
 
 join-requires : tie.Need-join-requires
 join-requires c κs = search needs
@@ -34,15 +34,15 @@ returns c =
     let start = c .before .before .before .before .before .before .before .before .before .before in
     let O = c .before .before .before .before .before .before .before .once in
     let J = c .before .before .join in
-    let F = c .before .before .before .first-quad in
+    let F = c .before .before .before .first-morton in
     let e = O .ensures in
     let part = J .last .0 in
     let rest = drop (O .result) (O .last .0) in
-    passed (start .args .m) (start .args .quads .now) (start .pre .0) (start .pre .1) (part ++ rest) (O .result) (J .result)
+    passed (start .args .m) (start .args .codes .now) (start .pre .0) (start .pre .1) (part ++ rest) (O .result) (J .result)
     (sym (length-take-le (O .result) (O .last .0) (e .within)) ∙ ap length (e .front))
     (rw (length-append part rest) (omega (arith, J .ensures .0)))
     (take-append-le (J .result) part rest (J .ensures .0)
-    ∙ (J .ensures .1 ∙ (ap (λ (n : ℕ). joinOf n (take (O .result) (O .last .0))) (F .ensures) ∙ ap (joinOf (firstQuad (start .args .m))) (e .front))))
+    ∙ (J .ensures .1 ∙ (ap (λ (n : ℕ). joinOf n (take (O .result) (O .last .0))) (F .ensures) ∙ ap (joinOf (firstMorton (start .args .m))) (e .front))))
 
 pub pass-spec : {M : Type 1} → statement M
 pass-spec =
@@ -51,7 +51,7 @@ pass-spec =
     once-requires
     slice-relend-prefix-join
     slice-aggregate-join
-    first-quad-requires
+    first-morton-requires
     join-requires
     same-length
     returns)

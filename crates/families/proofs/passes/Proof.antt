@@ -12,21 +12,21 @@ use Rattle.families.proofs.passes.Statement.{statement}
 use Rattle.families.proofs.passes.Tie as tie
 
 abbrev Inv-loop : tie.InvT-loop
-Inv-loop quads₀ count scratch₀ m left₀ zooms₀ quads scratch left zooms = Turn m (take count quads₀) quads left zooms × (length quads ≡ length quads₀) × (length scratch ≡ length scratch₀)
+Inv-loop codes₀ count scratch₀ m left₀ zooms₀ codes scratch left zooms = Turn m (take count codes₀) codes left zooms × (length codes ≡ length codes₀) × (length scratch ≡ length scratch₀)
 
 abbrev μ-loop : tie.MeasureT-loop
-μ-loop quads₀ count scratch₀ m left₀ zooms₀ quads scratch left zooms = zooms
+μ-loop codes₀ count scratch₀ m left₀ zooms₀ codes scratch left zooms = zooms
 
 loop-holds : tie.Need-loop-holds Inv-loop μ-loop
 unfolding maxZoom
 loop-holds c =
-    let a = c .before .before .args in (first-turn (a .m) (take (a .count) (a .quads .now)) (a .quads .now) (a .count) (c .before .before .pre .0 .0) (c .before .before .pre .1) refl, refl, refl)
+    let a = c .before .before .args in (first-turn (a .m) (take (a .count) (a .codes .now)) (a .codes .now) (a .count) (c .before .before .pre .0 .0) (c .before .before .pre .1) refl, refl, refl)
 
 slice-relend-prefix-sorted-pass : tie.Need-slice-relend-prefix-sorted-pass Inv-loop μ-loop
 slice-relend-prefix-sorted-pass c = search needs
 
 slice-aggregate-sorted-pass : tie.Need-slice-aggregate-sorted-pass Inv-loop μ-loop
-slice-aggregate-sorted-pass c = let L = c .before .before .loop in sym (length-take-le (L .left) (L .quads) (L .inv .0 .within))
+slice-aggregate-sorted-pass c = let L = c .before .before .loop in sym (length-take-le (L .left) (L .codes) (L .inv .0 .within))
 
 slice-relend-prefix-sorted-pass-2 : tie.Need-slice-relend-prefix-sorted-pass-2 Inv-loop μ-loop
 slice-relend-prefix-sorted-pass-2 c = search needs
@@ -41,7 +41,7 @@ sorted-pass-requires : tie.Need-sorted-pass-requires Inv-loop μ-loop
 sorted-pass-requires c κs =
     let L = c .before .before .before .loop in
     let h : L .left ≤ length (L .scratch) = omega (arith, c .before .before .before .before .before .before .pre .0 .1, L .inv .0 .within, L .inv .1, L .inv .2) in
-    (L .inv .0 .numbers, length-take-le (L .left) (L .quads) (L .inv .0 .within) ∙ sym (length-take-le (L .left) (L .scratch) h))
+    (L .inv .0 .numbers, length-take-le (L .left) (L .codes) (L .inv .0 .within) ∙ sym (length-take-le (L .left) (L .scratch) h))
 
 same-length : tie.Need-same-length Inv-loop μ-loop
 same-length c = search needs
@@ -54,7 +54,7 @@ returns c =
     let a = c .before .before .before .before .before .before .before .before .before .before .before .before .before .args in
     let L = c .before .before .before .before .before .before .before .before .before .before .loop in
     let P = c .before .before .before .before .before .before .sorted-pass in
-    last-turn (a .m) (take (a .count) (a .quads .now)) (L .quads) (L .left) (L .zooms) (L .inv .0) (omega arith) (P .last .0) _ (P .result) (P .ensures) (not-true (P .result .changed) (c .if1 .taken))
+    last-turn (a .m) (take (a .count) (a .codes .now)) (L .codes) (L .left) (L .zooms) (L .inv .0) (omega arith) (P .last .0) _ (P .result) (P .ensures) (not-true (P .result .changed) (c .if1 .taken))
 
 sub-zooms : tie.Need-sub-zooms Inv-loop μ-loop
 sub-zooms c = search needs
@@ -67,7 +67,7 @@ loop-again c =
     let a = c .before .before .before .before .before .before .before .before .before .before .before .before .before .args in
     let L = c .before .before .before .before .before .before .before .before .before .before .loop in
     let P = c .before .before .before .before .before .before .sorted-pass in
-    (next-turn (a .m) (take (a .count) (a .quads .now)) (L .quads) (L .left) (L .zooms) (L .inv .0) (omega arith) (P .last .0) _ (P .result) (P .ensures), search needs, search needs)
+    (next-turn (a .m) (take (a .count) (a .codes .now)) (L .codes) (L .left) (L .zooms) (L .inv .0) (omega arith) (P .last .0) _ (P .result) (P .ensures), search needs, search needs)
 
 same-length-3 : tie.Need-same-length-3 Inv-loop μ-loop
 same-length-3 c = search needs
@@ -77,7 +77,7 @@ same-length-4 c = search needs
 
 returns-2 : tie.Need-returns-2 Inv-loop μ-loop
 returns-2 c = let L = c .before .loop in let a = c .before .before .before .before .args in
-    turned-all (a .m) (take (a .count) (a .quads .now)) (L .quads) (L .left) (L .zooms) (L .inv .0) (c .loop-test .left)
+    turned-all (a .m) (take (a .count) (a .codes .now)) (L .codes) (L .left) (L .zooms) (L .inv .0) (c .loop-test .left)
 
 pub passes-spec : {M : Type 1} → statement M
 passes-spec =

@@ -15,10 +15,10 @@ use Rattle.quadtree.proofs.keys.Statement.{statement}
 use Rattle.quadtree.proofs.keys.Tie as tie
 
 abbrev Inv-loop : tie.InvT-loop
-Inv-loop list keys₀ placed i₀ keys i = (allOf isEntry list ≡ allOf isEntry (drop i list)) × Mapped (entryKey placed) list keys₀ i keys
+Inv-loop list keys₀ by i₀ keys i = (allOf isEntry list ≡ allOf isEntry (drop i list)) × Mapped (entryKey by) list keys₀ i keys
 
 abbrev μ-loop : tie.MeasureT-loop
-μ-loop list keys₀ placed i₀ keys i = length list - i
+μ-loop list keys₀ by i₀ keys i = length list - i
 
 loop-holds : tie.Need-loop-holds Inv-loop μ-loop
 loop-holds c = (refl, record { same = c .before .before .pre; within = omega arith; written = refl })
@@ -43,8 +43,8 @@ found c =
     let e = c .before .before in
     answer-found (entryRefusal (entry e)) noTile (entryTile (entry e)) _ (sym (ap tileCase (c .t .given .1)) ∙ e .entry-tile .ensures)
 
-key-requires : tie.Need-key-requires Inv-loop μ-loop
-key-requires c κs = let f = found (c .before) in rw (f .1) (accepted-entry (entry (c .before .before .before)) (f .0))
+key-of-requires : tie.Need-key-of-requires Inv-loop μ-loop
+key-of-requires c κs = let f = found (c .before) in rw (f .1) (accepted-entry (entry (c .before .before .before)) (f .0))
 
 mul-keys : tie.Need-mul-keys Inv-loop μ-loop
 mul-keys c = search needs
@@ -86,7 +86,7 @@ loop-again c =
     let l = t .before .before .before .before in
     let f = found t in
     let s = l .before .before .before .before in
-    let e = c .key .ensures ∙ ap (sortKey (s .args .placed)) (f .1) in (
+    let e = c .key-of .ensures ∙ ap (sortKey (s .args .by)) (f .1) in (
       l .before .loop .inv .0 ∙ all-here isEntry _ _ (l .loop-test .taken) (eq-eqb _ _ (f .0)),
       mapped-next (l .before .loop .inv .1) (l .loop-test .taken) e,
     )
@@ -110,7 +110,7 @@ keys-spec =
     shared-slice-read-entry-tile
     entry-tile-requires
     enum-known-t
-    key-requires
+    key-of-requires
     mul-keys
     slice-write-keys
     enum-told

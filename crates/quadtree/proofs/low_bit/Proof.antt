@@ -1,4 +1,4 @@
--- `low_bit`: the power of two that stands at the place's lowest set bit.
+-- `low_bit`: the power of two that stands at the location's lowest set bit.
 use mathlib.Core.Path.{_∙_}
 use Prim.Native.Nat.{_^_}
 use native.Mathlib.Nat.{one-mul}
@@ -6,7 +6,7 @@ use native.Mathlib.Omega.{arith}
 use lib.Count.{trailingZeros}
 use Rattle.bits.specs.Powers.{pow-within}
 use Rattle.constants.specs.Limits.{maxZoom-small}
-use Rattle.quadtree.specs.Places.{zeros-of, low-of}
+use Rattle.quadtree.specs.Locations.{zeros-of, low-of}
 use Rattle.quadtree.proofs.low_bit.Statement.{statement}
 use Rattle.quadtree.proofs.low_bit.Tie as tie
 

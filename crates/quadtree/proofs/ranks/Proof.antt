@@ -9,10 +9,10 @@ use Rattle.quadtree.proofs.ranks.Statement.{statement}
 use Rattle.quadtree.proofs.ranks.Tie as tie
 
 abbrev Inv-loop : tie.InvT-loop
-Inv-loop keys₀ placed i₀ keys i = Mapped (keyRank placed) keys₀ keys₀ i keys
+Inv-loop keys₀ by i₀ keys i = Mapped (keyRank by) keys₀ keys₀ i keys
 
 abbrev μ-loop : tie.MeasureT-loop
-μ-loop keys₀ placed i₀ keys i = length keys₀ - i
+μ-loop keys₀ by i₀ keys i = length keys₀ - i
 
 loop-holds : tie.Need-loop-holds Inv-loop μ-loop
 loop-holds c = record { same = refl; within = omega arith; written = refl }
@@ -43,7 +43,7 @@ loop-less c = omega (arith, mapped-length (c .before .before .before .loop .inv)
 loop-again : tie.Need-loop-again Inv-loop μ-loop
 loop-again c =
     let l = c .before .before .before .loop in
-    let e = c .rank .ensures ∙ ap (keyRank (c .before .before .before .before .before .args .placed)) (mapped-at (l .inv)) in
+    let e = c .rank .ensures ∙ ap (keyRank (c .before .before .before .before .before .args .by)) (mapped-at (l .inv)) in
     mapped-next (l .inv) (omega (arith, mapped-length (l .inv))) e
 
 same-length : tie.Need-same-length Inv-loop μ-loop

@@ -1,21 +1,21 @@
--- `family` tests the zoom, the quad and then the three places below k.
+-- `family` tests the zoom, the Morton code and then the three locations below k.
 use mathlib.Core.Path.{_≡_, refl}
 use Prim.Native.Nat.{_*_, _%_, _≤_}
 use native.Mathlib.Omega.{arith}
 use borrow.Author.Needs.{needs}
 use borrow.Author.Tests.{eqb-true, eq-eqb}
-use Rattle.quadtree.specs.Numbers.{quadOf, placeTile}
-use Rattle.quadtree.specs.Places.{lowOf}
+use Rattle.quadtree.specs.Numbers.{mortonOf, locationTile}
+use Rattle.quadtree.specs.Locations.{lowOf}
 use Rattle.settle.specs.Siblings.{siblings-fit, family-siblings, siblings-family, no-family}
 use Rattle.settle.proofs.family.Statement.{statement}
 use Rattle.settle.proofs.family.Tie as tie
 
--- what the tests before the three places told
+-- what the tests before the three locations told
 abbrev start : tie.After-low-bit → tie.Start
 start c = c .before .before .before .before .before .before .before
 
-fourth : (c : tie.After-low-bit) → quadOf (placeTile (start c .args .k)) % 4 ≡ 3
-fourth c = omega (arith, c .before .before .quad .ensures, c .before .if3 .left)
+fourth : (c : tie.After-low-bit) → mortonOf (locationTile (start c .args .k)) % 4 ≡ 3
+fourth c = omega (arith, c .before .before .morton .ensures, c .before .if3 .left)
 
 fits : (c : tie.After-low-bit) → 3 * (2 * c .low-bit .result) ≤ start c .args .k
 fits c = siblings-fit 0 _ _ _ (c .low-bit .result) (start c .pre) (c .low-bit .ensures) (fourth c)
@@ -23,7 +23,7 @@ fits c = siblings-fit 0 _ _ _ (c .low-bit .result) (start c .pre) (c .low-bit .e
 returns : tie.Need-returns
 returns c =
     let s = c .before .before in
-    no-family _ _ _ _ (lowOf (placeTile (s .args .k))) (s .pre) refl (λ g. omega (arith, g .three))
+    no-family _ _ _ _ (lowOf (locationTile (s .args .k))) (s .pre) refl (λ g. omega (arith, g .three))
 
 zoom-requires : tie.Need-zoom-requires
 zoom-requires c κs = search needs
@@ -31,15 +31,15 @@ zoom-requires c κs = search needs
 returns-2 : tie.Need-returns-2
 returns-2 c =
     let s = c .before .before .before .before in
-    no-family _ _ _ _ (lowOf (placeTile (s .args .k))) (s .pre) refl (λ g. omega (arith, g .deep, c .before .zoom .ensures))
+    no-family _ _ _ _ (lowOf (locationTile (s .args .k))) (s .pre) refl (λ g. omega (arith, g .deep, c .before .zoom .ensures))
 
-quad-requires : tie.Need-quad-requires
-quad-requires c κs = search needs
+morton-requires : tie.Need-morton-requires
+morton-requires c κs = search needs
 
 returns-3 : tie.Need-returns-3
 returns-3 c =
     let s = c .before .before .before .before .before .before in
-    no-family _ _ _ _ (lowOf (placeTile (s .args .k))) (s .pre) refl (λ g. c .if3 .taken (rw (c .before .quad .ensures) (g .fourth)))
+    no-family _ _ _ _ (lowOf (locationTile (s .args .k))) (s .pre) refl (λ g. c .if3 .taken (rw (c .before .morton .ensures) (g .fourth)))
 
 low-bit-requires : tie.Need-low-bit-requires
 low-bit-requires c κs = search needs
@@ -102,7 +102,7 @@ returns-6 c =
     let a = start b .args in
     let w = b .low-bit .result in
     let e = b .low-bit .ensures in (
-      λ q. siblings-family (a .m) (a .places .now) (a .count) (a .k) w (start b .pre) e (record {
+      λ q. siblings-family (a .m) (a .locations .now) (a .count) (a .k) w (start b .pre) e (record {
         three = omega (arith, b .before .before .before .before .before .if1 .left);
         deep = omega (arith, b .before .before .before .before .zoom .ensures, b .before .before .before .if2 .left);
         fourth = fourth b;
@@ -120,7 +120,7 @@ family-spec =
     returns
     zoom-requires
     returns-2
-    quad-requires
+    morton-requires
     returns-3
     low-bit-requires
     mul-step

@@ -3,24 +3,24 @@ use mathlib.Core.Path.{sym, _∙_}
 use mathlib.Core.Bool.{true≢false}
 use Prim.Native.Nat.{ℕ}
 use native.Mathlib.Omega.{arith}
-use Rattle.quadtree.specs.Numbers.{placeTile}
+use Rattle.quadtree.specs.Numbers.{locationTile}
 use Rattle.tile.specs.declared.Tile.{Tile}
-use Rattle.quadtree.specs.Places.{room, tiles}
+use Rattle.quadtree.specs.Locations.{room, tiles}
 use Rattle.settle.specs.Settle.{Stand, Family, Joins, stop, join}
 use Rattle.settle.specs.Siblings.{siblings-fit, parent, family-siblings, join-stand}
 use Rattle.settle.proofs.joined.Statement.{statement}
 use Rattle.settle.proofs.joined.Tie as tie
 
 abbrev Inv-loop : tie.InvT-loop
-Inv-loop places count k m left₀ top₀ left top = Stand places left top × ((c j : ℕ) → Joins m places c j left top → Joins m places c j count k)
+Inv-loop locations count k m left₀ top₀ left top = Stand locations left top × ((c j : ℕ) → Joins m locations c j left top → Joins m locations c j count k)
 
 abbrev μ-loop : tie.MeasureT-loop
-μ-loop places count k m left₀ top₀ left top = left
+μ-loop locations count k m left₀ top₀ left top = left
 
 -- the family that the test found
 found : (c : tie.Then1 Inv-loop μ-loop)
-    → (p : Tile) × Family (c .before .before .before .before .args .m) (tiles (c .before .before .before .before .args .places .now))
-    (c .before .before .loop .left) (placeTile (c .before .before .loop .top)) p
+    → (p : Tile) × Family (c .before .before .before .before .args .m) (tiles (c .before .before .before .before .args .locations .now))
+    (c .before .before .loop .left) (locationTile (c .before .before .loop .top)) p
 found c = c .before .family .ensures .0 (c .if1 .taken)
 
 loop-holds : tie.Need-loop-holds Inv-loop μ-loop

@@ -1,4 +1,4 @@
--- `popped`: the places from `left` on are above `start`.
+-- `popped`: the locations from `left` on are above `start`.
 use mathlib.Core.List.{List}
 use Prim.Native.Nat.{ℕ, _-_, _≤_, _<_}
 use native.Mathlib.Decide.{decLt}
@@ -10,10 +10,10 @@ use Rattle.settle.proofs.popped.Statement.{statement}
 use Rattle.settle.proofs.popped.Tie as tie
 
 abbrev Inv-loop : tie.InvT-loop
-Inv-loop places count start left₀ left = (left ≤ count) × ((i : ℕ) → left ≤ i → i < count → start < getD places i 0)
+Inv-loop locations count start left₀ left = (left ≤ count) × ((i : ℕ) → left ≤ i → i < count → start < getD locations i 0)
 
 abbrev μ-loop : tie.MeasureT-loop
-μ-loop places count start left₀ left = left
+μ-loop locations count start left₀ left = left
 
 one-more : (l : List ℕ) (start count left : ℕ) → ((i : ℕ) → left ≤ i → i < count → start < getD l i 0) → start < getD l (left - 1) 0
     → (i : ℕ) → left - 1 ≤ i → i < count → start < getD l i 0
@@ -50,7 +50,7 @@ loop-again : tie.Need-loop-again Inv-loop μ-loop
 loop-again c =
     let L = c .before .before .before .loop in
     let a = c .before .before .before .before .args in
-    (omega arith, one-more (a .places .now) (a .start) (a .count) (L .left) (L .inv .1) (c .if1 .left))
+    (omega arith, one-more (a .locations .now) (a .start) (a .count) (L .left) (L .inv .1) (c .if1 .left))
 
 returns-2 : tie.Need-returns-2 Inv-loop μ-loop
 returns-2 c = let L = c .before .loop in record { within = L .inv .0; off = L .inv .1; last = λ h. absurd (omega arith) }

@@ -5,26 +5,26 @@ use Prim.Native.Nat.{ℕ, _-_, _≤_}
 use native.Mathlib.Omega.{arith}
 use borrow.Author.Needs.{needs}
 use lib.ListN.{length, getD}
-use Rattle.quadtree.specs.Places.{IsPlace, room}
-use Rattle.settle.specs.Middle.{Mid, begun, next-place, joins-less, dropped, kept-top, ended}
+use Rattle.quadtree.specs.Locations.{IsLocation, room}
+use Rattle.settle.specs.Middle.{Mid, begun, next-location, joins-less, dropped, kept-top, ended}
 use Rattle.settle.proofs.settle.Statement.{statement}
 use Rattle.settle.proofs.settle.Tie as tie
 
 abbrev Inv-loop : tie.InvT-loop
-Inv-loop places₀ m count₀ end₀ i₀ places count end i = Mid m places₀ places count end i
+Inv-loop locations₀ m count₀ end₀ i₀ locations count end i = Mid m locations₀ locations count end i
 
 abbrev μ-loop : tie.MeasureT-loop
-μ-loop places₀ m count₀ end₀ i₀ places count end i = length places₀ - i
+μ-loop locations₀ m count₀ end₀ i₀ locations count end i = length locations₀ - i
 
 loop-holds : tie.Need-loop-holds Inv-loop μ-loop
-loop-holds c = begun (c .before .args .m) (c .before .args .places .now)
+loop-holds c = begun (c .before .args .m) (c .before .args .locations .now)
 
 -- the number that is read
-next : (c : tie.Then1 Inv-loop μ-loop) → IsPlace (getD (c .before .before .before .loop .places) (c .before .before .before .loop .i) 0)
+next : (c : tie.Then1 Inv-loop μ-loop) → IsLocation (getD (c .before .before .before .loop .locations) (c .before .before .before .loop .i) 0)
 next c =
     let L = c .before .before .before .loop in
     let a = c .before .before .before .before .before in
-    next-place (a .args .m) (a .args .places .now) (L .places) (L .count) (L .end) (L .i) (a .pre .0) (L .inv) (c .before .before .loop-test .taken)
+    next-location (a .args .m) (a .args .locations .now) (L .locations) (L .count) (L .end) (L .i) (a .pre .0) (L .inv) (c .before .before .loop-test .taken)
 
 mul-k : tie.Need-mul-k Inv-loop μ-loop
 mul-k c = search needs
@@ -54,11 +54,11 @@ top-less c =
     let i = c .before .before .before .before .before .before .before .before .loop .inv in
     omega (arith, i .order, c .before .before .popped .ensures .within, joins-less (c .joined .ensures))
 
-mul-places : tie.Need-mul-places Inv-loop μ-loop
-mul-places c = omega (arith, top-less c)
+mul-locations : tie.Need-mul-locations Inv-loop μ-loop
+mul-locations c = omega (arith, top-less c)
 
-slice-write-places : tie.Need-slice-write-places Inv-loop μ-loop
-slice-write-places c = omega (arith, top-less c)
+slice-write-locations : tie.Need-slice-write-locations Inv-loop μ-loop
+slice-write-locations c = omega (arith, top-less c)
 
 add-count : tie.Need-add-count Inv-loop μ-loop
 add-count c = omega (arith, top-less c)
@@ -77,12 +77,12 @@ loop-again c =
     let L = c .before .before .before .loop in
     let a = c .before .before .before .before .before in
     let m = a .args .m in
-    let s₀ : List ℕ = a .args .places .now in
+    let s₀ : List ℕ = a .args .locations .now in
     let h = c .before .before .loop-test .taken in
     ⊎-elim
-    (λ w. rw (w .6, w .7, w .8) (kept-top m s₀ (L .places) (L .count) (L .end) (L .i) (a .pre .0) (a .pre .1) (L .inv) h (w .1 .result) (w .3 .result)
-    (w .5 .result .count) (w .5 .result .place) (w .1 .ensures) (w .0 .taken) (w .3 .ensures) (w .5 .ensures)))
-    (λ w. rw (w .1, w .2, w .3) (dropped m s₀ (L .places) (L .count) (L .end) (L .i) (a .pre .0) (L .inv) h (w .0 .left)))
+    (λ w. rw (w .6, w .7, w .8) (kept-top m s₀ (L .locations) (L .count) (L .end) (L .i) (a .pre .0) (a .pre .1) (L .inv) h (w .1 .result) (w .3 .result)
+    (w .5 .result .count) (w .5 .result .location) (w .1 .ensures) (w .0 .taken) (w .3 .ensures) (w .5 .ensures)))
+    (λ w. rw (w .1, w .2, w .3) (dropped m s₀ (L .locations) (L .count) (L .end) (L .i) (a .pre .0) (L .inv) h (w .0 .left)))
     (c .if1 .came)
 
 same-length : tie.Need-same-length Inv-loop μ-loop
@@ -92,7 +92,7 @@ returns : tie.Need-returns Inv-loop μ-loop
 returns c =
     let L = c .before .loop in
     let a = c .before .before .before .args in
-    ended (a .m) (a .places .now) (L .places) (L .count) (L .end) (L .i) (L .inv) (c .loop-test .left)
+    ended (a .m) (a .locations .now) (L .locations) (L .count) (L .end) (L .i) (L .inv) (c .loop-test .left)
 
 pub settle-spec : {M : Type 1} → statement M
 settle-spec =
@@ -107,8 +107,8 @@ settle-spec =
     sub-popped
     popped-requires
     joined-requires
-    mul-places
-    slice-write-places
+    mul-locations
+    slice-write-locations
     add-count
     add-end
     add-i

@@ -1,5 +1,5 @@
--- `simplified`: places in order, one pass, and the set as a list.
-use Rattle.quadtree.specs.Numbers.{placeOf}
+-- `simplified`: locations in order, one pass, and the set as a list.
+use Rattle.quadtree.specs.Numbers.{locationOf}
 use Rattle.settle.specs.Simplify.{settled-listed}
 use Rattle.sort.specs.Laws.{sorted-by}
 use Rattle.tile_list.specs.Laws.{sort-numbers}
@@ -12,9 +12,9 @@ sort-into-requires c κs = search needs
 
 settle-requires : tie.Need-settle-requires
 settle-requires c κs =
-    let l = c .before .before .before .before .before .before .before .before .before .before .args .places .now in
+    let l = c .before .before .before .before .before .before .before .before .before .before .args .locations .now in
     rw (c .before .before .before .before .before .sort-into .ensures)
-    (sort-numbers placeOf l (c .before .before .before .before .before .before .before .before .before .before .pre .0), sorted-by l)
+    (sort-numbers locationOf l (c .before .before .before .before .before .before .before .before .before .before .pre .0), sorted-by l)
 
 finish-requires : tie.Need-finish-requires
 finish-requires c κs = search needs
@@ -31,7 +31,7 @@ returns c =
     let settled = finished .before .before .before .before .before in
     let sorted = settled .before .before .before .before .before .before in
     let start = sorted .before .before .before .before .before in
-    settled-listed (start .args .m) (start .args .places .now) _ _ _ _ (start .pre .0)
+    settled-listed (start .args .m) (start .args .locations .now) _ _ _ _ (start .pre .0)
     (rw (sorted .sort-into .ensures) at (settled .settle .ensures)) (finished .finish .ensures)
 
 pub simplified-spec : {M : Type 1} → statement M

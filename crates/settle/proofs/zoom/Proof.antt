@@ -1,7 +1,7 @@
--- `zoom`: a place has two zeros below its lowest set bit for each step that its tile stands above the deepest zoom.
+-- `zoom`: a location has two zeros below its lowest set bit for each step that its tile stands above the deepest zoom.
 use native.Mathlib.Omega.{arith}
 use Rattle.constants.specs.Limits.{maxZoom}
-use Rattle.quadtree.specs.Places.{zeros-of}
+use Rattle.quadtree.specs.Locations.{zeros-of}
 use Rattle.settle.proofs.zoom.Statement.{statement}
 use Rattle.settle.proofs.zoom.Tie as tie
 

@@ -1,28 +1,28 @@
--- `apart`: the runs of the places before i rise, and none of their tiles completes a family.
+-- `apart`: the runs of the locations before i rise, and none of their tiles completes a family.
 use mathlib.Core.Path.{sym, _∙_}
 use mathlib.Core.Bool.{true≢false}
 use Prim.Native.Nat.{_-_}
 use native.Mathlib.Omega.{arith}
 use lib.ListN.{length, getD}
 use borrow.Author.Needs.{needs}
-use Rattle.quadtree.specs.Places.{room}
+use Rattle.quadtree.specs.Locations.{room}
 use Rattle.settle.specs.Settle.{Stand}
 use Rattle.settled.specs.Walk.{Loose, loose-none, stands, nested, family-found, loose-next, loose-all}
 use Rattle.settled.proofs.apart.Statement.{statement}
 use Rattle.settled.proofs.apart.Tie as tie
 
 abbrev Inv-loop : tie.InvT-loop
-Inv-loop places end₀ i₀ end i = Loose places end i
+Inv-loop locations end₀ i₀ end i = Loose locations end i
 
 abbrev μ-loop : tie.MeasureT-loop
-μ-loop places end₀ i₀ end i = length places - i
+μ-loop locations end₀ i₀ end i = length locations - i
 
 loop-holds : tie.Need-loop-holds Inv-loop μ-loop
-loop-holds c = loose-none (c .before .args .places .now)
+loop-holds c = loose-none (c .before .args .locations .now)
 
--- the place that is read, on top of those before it
+-- the location that is read, on top of those before it
 stand : (c : tie.After-shared-slice-known2 Inv-loop μ-loop)
-    → Stand (c .before .before .before .before .args .places .now) (c .before .before .loop .i) (getD (c .before .before .before .before .args .places .now) (c .before .before .loop .i) 0)
+    → Stand (c .before .before .before .before .args .locations .now) (c .before .before .loop .i) (getD (c .before .before .before .before .args .locations .now) (c .before .before .loop .i) 0)
 stand c = let L = c .before .before .loop in stands _ (c .before .before .before .before .pre) (L .end) (L .i) (L .inv) (c .before .loop-test .taken)
 
 mul-k : tie.Need-mul-k Inv-loop μ-loop

@@ -1,4 +1,4 @@
--- `long` lends places as long as the list, and a scratch.
+-- `long` lends locations as long as the list, and a scratch.
 use mathlib.Core.Path.{sym}
 use Prim.Native.Nat.{ℕ}
 use native.Mathlib.Omega.{arith}
@@ -9,9 +9,9 @@ use borrow.Author.Needs.{needs}
 use Rattle.settled.proofs.long.Statement.{statement}
 use Rattle.settled.proofs.long.Tie as tie
 
-array-borrow-prefix-places : tie.Need-array-borrow-prefix-places
+array-borrow-prefix-locations : tie.Need-array-borrow-prefix-locations
 unfolding maxEntries
-array-borrow-prefix-places c = c .before .pre
+array-borrow-prefix-locations c = c .before .pre
 
 slice-aggregate-test-in : tie.Need-slice-aggregate-test-in
 unfolding maxEntries
@@ -31,7 +31,7 @@ pub long-spec : {M : Type 1} → statement M
 long-spec =
     tie.close
     (tie.spec
-    array-borrow-prefix-places
+    array-borrow-prefix-locations
     slice-aggregate-test-in
     slice-aggregate-test-in-2
     test-in-requires

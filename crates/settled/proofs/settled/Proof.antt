@@ -1,5 +1,5 @@
--- `settled`: the list is in order, and its places, in theirs, lie apart.
-use Rattle.settled.specs.Laws.{not-in-order, sorted-places, tested}
+-- `settled`: the list is in order, and its locations, in theirs, lie apart.
+use Rattle.settled.specs.Laws.{not-in-order, sorted-locations, tested}
 use borrow.Author.Needs.{needs}
 use Rattle.settled.proofs.settled.Statement.{statement}
 use Rattle.settled.proofs.settled.Tie as tie
@@ -19,7 +19,7 @@ apart-requires : tie.Need-apart-requires
 apart-requires c κs =
     let b = c .before .before .before .before .before in
     let a = b .before .before .before .before .before .before .before .before in
-    sorted-places (a .args .list .now) (a .args .places .now) _ (a .pre .0) (a .pre .1) (b .sort .ensures)
+    sorted-locations (a .args .list .now) (a .args .locations .now) _ (a .pre .0) (a .pre .1) (b .sort .ensures)
 
 same-length : tie.Need-same-length
 same-length c = search needs
@@ -33,7 +33,7 @@ returns-2 c =
     let f = b .before .before .before in
     let s = f .before .strictly-in-order in
     let a = f .before .before .before .before .before in
-    tested (a .args .list .now) (a .args .places .now) _ (a .pre .0) (a .pre .1) (b .sort .ensures) (s .result) (s .ensures) (f .if1 .left) (c .apart .result)
+    tested (a .args .list .now) (a .args .locations .now) _ (a .pre .0) (a .pre .1) (b .sort .ensures) (s .result) (s .ensures) (f .if1 .left) (c .apart .result)
     (c .apart .ensures)
 
 pub settled-spec : {M : Type 1} → statement M

@@ -1,4 +1,4 @@
--- `short` lends places as long as the list, and a scratch.
+-- `short` lends locations as long as the list, and a scratch.
 use mathlib.Core.Path.{sym}
 use Prim.Native.Nat.{ℕ}
 use native.Mathlib.Omega.{arith}
@@ -9,8 +9,8 @@ use borrow.Author.Needs.{needs}
 use Rattle.settled.proofs.short.Statement.{statement}
 use Rattle.settled.proofs.short.Tie as tie
 
-array-borrow-prefix-places : tie.Need-array-borrow-prefix-places
-array-borrow-prefix-places c = search needs
+array-borrow-prefix-locations : tie.Need-array-borrow-prefix-locations
+array-borrow-prefix-locations c = search needs
 
 slice-aggregate-test-in : tie.Need-slice-aggregate-test-in
 slice-aggregate-test-in c = scratch-part 64 _ (c .before .before .pre)
@@ -29,7 +29,7 @@ pub short-spec : {M : Type 1} → statement M
 short-spec =
     tie.close
     (tie.spec
-    array-borrow-prefix-places
+    array-borrow-prefix-locations
     slice-aggregate-test-in
     slice-aggregate-test-in-2
     test-in-requires

@@ -24,7 +24,7 @@ slice-aggregate-entries c = let o = c .before .before .before .once in sym (leng
 entries-requires : tie.Need-entries-requires
 entries-requires c κs =
     let a = c .before .before .before .before .before .before .before .before .before .before .before .before .before .before .before .before .before .before .args in
-    front-ranks (a .placed) (a .keys .now) _ _ _ _
+    front-ranks (a .by) (a .keys .now) _ _ _ _
     (c .before .before .before .before .before .before .before .before .before .before .before .before .before .before .before .before .before .before .pre)
     (c .before .before .before .before .before .before .before .before .before .before .before .before .before .before .ranks .ensures)
     (c .before .before .before .before .before .before .before .before .before .sort .ensures) (c .before .before .before .once .ensures)
@@ -41,7 +41,7 @@ returns c =
     let sorted = once .before .before .before .before .before .before in
     let ranked = sorted .before .before .before .before .before in
     let start = ranked .before .before .before .before in
-    front-entries (start .args .placed) (start .args .keys .now) _ _ _ _
+    front-entries (start .args .by) (start .args .keys .now) _ _ _ _
     (start .pre) (ranked .ranks .ensures) (sorted .sort .ensures) (once .once .ensures) _ _ (c .before .before .entries .ensures)
 
 pub entries-spec : {M : Type 1} → statement M

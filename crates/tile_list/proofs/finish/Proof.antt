@@ -30,7 +30,7 @@ returns : tie.Need-returns
 returns c =
     let a = c .before .before .before .before .before .before .before .before .before .before .before .before .before .args in
     let e = c .before .before .before .before .before .before .before .before .entries in
-    finish-listed (a .placed) _ (e .last .0) _ (e .result) _
+    finish-listed (a .by) _ (e .last .0) _ (e .result) _
     (c .before .before .before .before .before .before .before .before .before .before .before .before .before .pre .1) (e .ensures .0) (e .ensures .1)
     (c .before .before .clear .ensures)
 

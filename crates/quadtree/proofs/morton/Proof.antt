@@ -1,15 +1,15 @@
--- `quadtree::quad` meets its contract: the leading 1 and the two that are spread make the quad, which fits.
+-- `quadtree::morton` meets its contract: the leading 1 and the two that are spread make the Morton code, which fits.
 use mathlib.Core.Path.{_≡_, _∙_}
 use Prim.Native.Nat.{_+_, _*_, _^_, _<_}
 use native.Mathlib.Omega.{arith}
 use borrow.Author.Needs.{needs}
 use Rattle.constants.specs.Limits.{maxZoom-small}
 use Rattle.ids.specs.Laws.{wide-side, four-side}
-use Rattle.quadtree.specs.Digits.{apart, quad-apart}
-use Rattle.quadtree.specs.Laws.{quad-small}
-use Rattle.quadtree.specs.Numbers.{quadOf}
-use Rattle.quadtree.proofs.quad.Statement.{statement}
-use Rattle.quadtree.proofs.quad.Tie as tie
+use Rattle.quadtree.specs.Digits.{apart, morton-apart}
+use Rattle.quadtree.specs.Laws.{morton-small}
+use Rattle.quadtree.specs.Numbers.{mortonOf}
+use Rattle.quadtree.proofs.morton.Statement.{statement}
+use Rattle.quadtree.proofs.morton.Tie as tie
 
 mul-wide-pow2 : tie.Need-mul-wide-pow2
 mul-wide-pow2 c = omega (arith, c .before .pre .zoom, maxZoom-small)
@@ -26,14 +26,14 @@ one c =
     c .wide-pow2 .ensures ∙ (wide-side (2 * t .z) (omega (arith, c .before .before .pre .zoom, maxZoom-small)) ∙ four-side (t .z))
 
 whole : (c : tie.After-wide-pow2)
-    → quadOf (c .before .before .args .t) ≡ c .wide-pow2 .result + apart 1 32 (c .before .before .args .t .x) + 2 * apart 1 32 (c .before .before .args .t .y)
+    → mortonOf (c .before .before .args .t) ≡ c .wide-pow2 .result + apart 1 32 (c .before .before .args .t .x) + 2 * apart 1 32 (c .before .before .args .t .y)
 whole c =
     let s = c .before .before in
     let t = s .args .t in
-    rw (one c) (quad-apart (t .x) (t .y) (t .z) 32 (s .pre .column) (s .pre .row) (omega (arith, s .pre .zoom, maxZoom-small)))
+    rw (one c) (morton-apart (t .x) (t .y) (t .z) 32 (s .pre .column) (s .pre .row) (omega (arith, s .pre .zoom, maxZoom-small)))
 
-fits : (c : tie.After-wide-pow2) → quadOf (c .before .before .args .t) < 2 ^ 61
-fits c = quad-small (c .before .before .args .t) (c .before .before .pre) .1
+fits : (c : tie.After-wide-pow2) → mortonOf (c .before .before .args .t) < 2 ^ 61
+fits c = morton-small (c .before .before .args .t) (c .before .before .pre) .1
 
 add-result : tie.Need-add-result
 add-result c = omega (arith, whole (c .before), fits (c .before))
@@ -50,8 +50,8 @@ add-result-2 c = omega (arith, whole (c .before .before), fits (c .before .befor
 returns : tie.Need-returns
 returns c = omega (arith, whole (c .before .before))
 
-pub quad-spec : {M : Type 1} → statement M
-quad-spec =
+pub morton-spec : {M : Type 1} → statement M
+morton-spec =
     tie.close
     (tie.spec
     mul-wide-pow2

@@ -1,11 +1,11 @@
--- `placed`: the two tests, one after the other.
+-- `located`: the two tests, one after the other.
 use mathlib.Core.Path.{sym, _∙_, subst}
 use Rattle.area.specs.Work.{KeyedBoth}
 use Rattle.bits.specs.Tests.{not-false}
-use Rattle.area.specs.Tests.{placed-no-tile, placed-not-settled, placed-fine}
+use Rattle.area.specs.Tests.{located-no-tile, located-not-settled, located-fine}
 use borrow.Author.Needs.{needs}
-use Rattle.area.proofs.placed.Statement.{statement}
-use Rattle.area.proofs.placed.Tie as tie
+use Rattle.area.proofs.located.Statement.{statement}
+use Rattle.area.proofs.located.Tie as tie
 
 keyed-requires : tie.Need-keyed-requires
 keyed-requires c κs = search needs
@@ -17,7 +17,7 @@ returns : tie.Need-returns
 returns c =
     let a = c .before .before .before .before .before .before .before .before .before .args in
     let k = c .before .before .before .keyed in
-    placed-no-tile (a .a .now) (a .b .now) _ _ (k .result) (k .ensures) (c .if1 .taken)
+    located-no-tile (a .a .now) (a .b .now) _ _ (k .result) (k .ensures) (c .if1 .taken)
 
 both-settled-requires : tie.Need-both-settled-requires
 both-settled-requires c κs =
@@ -36,7 +36,7 @@ returns-2 c =
     let a = c .before .before .before .before .before .before .before .before .before .before .before .before .before .before .before .before .before .args in
     let k = c .before .before .before .before .before .before .before .before .before .before .before .keyed in
     let m = c .before .before .before .before .before .both-settled in
-    placed-not-settled (a .a .now) (a .b .now) _ _ _ (k .result) (m .result) (k .ensures) (c .before .before .before .before .before .before .before .before .if1 .left) (m .ensures) (c .if2 .taken)
+    located-not-settled (a .a .now) (a .b .now) _ _ _ (k .result) (m .result) (k .ensures) (c .before .before .before .before .before .before .before .before .if1 .left) (m .ensures) (c .if2 .taken)
 
 same-length-4 : tie.Need-same-length-4
 same-length-4 c = search needs
@@ -49,10 +49,10 @@ returns-3 c =
     let a = c .before .before .before .before .before .before .before .before .before .before .before .before .before .before .before .before .before .args in
     let k = c .before .before .before .before .before .before .before .before .before .before .before .keyed in
     let m = c .before .before .before .before .before .both-settled in
-    placed-fine (a .a .now) (a .b .now) _ _ (k .result) (m .result) (k .ensures) (c .before .before .before .before .before .before .before .before .if1 .left) (m .ensures) (c .if2 .left)
+    located-fine (a .a .now) (a .b .now) _ _ (k .result) (m .result) (k .ensures) (c .before .before .before .before .before .before .before .before .if1 .left) (m .ensures) (c .if2 .left)
 
-pub placed-spec : {M : Type 1} → statement M
-placed-spec =
+pub located-spec : {M : Type 1} → statement M
+located-spec =
     tie.close
     (tie.spec
     keyed-requires

@@ -1,9 +1,9 @@
--- `quad`: a quad stands above the lowest set bit of its place.
+-- `morton`: a Morton code stands above the lowest set bit of its location.
 use native.Mathlib.Omega.{arith}
 use Rattle.constants.specs.Limits.{maxZoom-small}
-use Rattle.quadtree.specs.Places.{zeros-of, quad-of}
-use Rattle.settle.proofs.quad.Statement.{statement}
-use Rattle.settle.proofs.quad.Tie as tie
+use Rattle.quadtree.specs.Locations.{zeros-of, morton-of}
+use Rattle.settle.proofs.morton.Statement.{statement}
+use Rattle.settle.proofs.morton.Tie as tie
 
 add-result : tie.Need-add-result
 add-result c = omega (arith, zeros-of (c .pre), maxZoom-small)
@@ -15,7 +15,7 @@ shr-result : tie.Need-shr-result
 shr-result c = omega (arith, zeros-of (c .pre), maxZoom-small)
 
 returns : tie.Need-returns
-returns c = quad-of (c .pre)
+returns c = morton-of (c .pre)
 
-pub quad-spec : {M : Type 1} → statement M
-quad-spec = tie.close (tie.spec add-result cast-result shr-result returns)
+pub morton-spec : {M : Type 1} → statement M
+morton-spec = tie.close (tie.spec add-result cast-result shr-result returns)

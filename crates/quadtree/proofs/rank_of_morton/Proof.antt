@@ -1,19 +1,19 @@
--- `quadtree::rank_of_quad` meets its contract: the column behind its leading 1, then the row.
+-- `quadtree::rank_of_morton` meets its contract: the column behind its leading 1, then the row.
 use mathlib.Core.Path.{_≡_, _∙_}
 use Prim.Native.Nat.{ℕ, _+_, _*_, _/_, _%_, _^_, _<_}
 use native.Mathlib.Omega.{arith}
 use borrow.Author.Needs.{needs}
-use Rattle.quadtree.specs.Laws.{quad-small, quad-tile, rank-small, quad-rank}
+use Rattle.quadtree.specs.Laws.{morton-small, morton-tile, rank-small, morton-rank}
 use Rattle.quadtree.specs.Lists.{by-tile}
-use Rattle.quadtree.specs.Numbers.{zoomIn, evenBits, quadTile, rankOf}
-use Rattle.quadtree.proofs.rank_of_quad.Statement.{statement}
-use Rattle.quadtree.proofs.rank_of_quad.Tie as tie
+use Rattle.quadtree.specs.Numbers.{zoomIn, evenBits, mortonTile, rankOf}
+use Rattle.quadtree.proofs.rank_of_morton.Statement.{statement}
+use Rattle.quadtree.proofs.rank_of_morton.Tie as tie
 
 gather-requires : tie.Need-gather-requires
 gather-requires c κs = search needs
 
 zoom-in-requires : tie.Need-zoom-in-requires
-zoom-in-requires c κs = by-tile (λ (q : ℕ). 0 < q) (c .before .pre) (λ t m. quad-small t m .0)
+zoom-in-requires c κs = by-tile (λ (q : ℕ). 0 < q) (c .before .pre) (λ t m. morton-small t m .0)
 
 cast-result : tie.Need-cast-result
 cast-result c = search needs
@@ -34,16 +34,16 @@ as-summed c = rw (c .before .before .gather .ensures, c .before .zoom-in .ensure
 
 add-result : tie.Need-add-result
 add-result c =
-    let l = by-tile (λ (q : ℕ). summed q < 2 ^ 61) (c .before .before .before .pre) (λ t m. rw (quad-rank t m) (rank-small t m .1)) in
+    let l = by-tile (λ (q : ℕ). summed q < 2 ^ 61) (c .before .before .before .pre) (λ t m. rw (morton-rank t m) (rank-small t m .1)) in
     omega (arith, as-summed c)
 
 returns : tie.Need-returns
 returns c =
-    let e = by-tile (λ (q : ℕ). summed q ≡ rankOf (quadTile q)) (c .before .before .before .pre) (λ t m. rw (quad-tile t m) (quad-rank t m)) in
+    let e = by-tile (λ (q : ℕ). summed q ≡ rankOf (mortonTile q)) (c .before .before .before .pre) (λ t m. rw (morton-tile t m) (morton-rank t m)) in
     as-summed c ∙ e
 
-pub rank-of-quad-spec : {M : Type 1} → statement M
-rank-of-quad-spec =
+pub rank-of-morton-spec : {M : Type 1} → statement M
+rank-of-morton-spec =
     tie.close
     (tie.spec
     gather-requires

@@ -1,22 +1,22 @@
--- `quadtree::place` meets its contract: the shift loses no bit.
+-- `quadtree::location` meets its contract: the shift loses no bit.
 use mathlib.Core.Path.{sym, ap, _∙_}
 use Prim.Native.Nat.{ℕ, _%_, _^_}
 use native.Mathlib.Nat.{mod-eq-of-lt}
 use native.Mathlib.Omega.{arith}
 use borrow.Author.Needs.{needs}
 use Rattle.constants.specs.Limits.{maxZoom}
-use Rattle.quadtree.specs.Laws.{quad-small, place-small, place-shift}
-use Rattle.quadtree.proofs.place.Statement.{statement}
-use Rattle.quadtree.proofs.place.Tie as tie
+use Rattle.quadtree.specs.Laws.{morton-small, location-small, location-shift}
+use Rattle.quadtree.proofs.location.Statement.{statement}
+use Rattle.quadtree.proofs.location.Tie as tie
 
-quad-requires : tie.Need-quad-requires
-quad-requires c κs = search needs
+morton-requires : tie.Need-morton-requires
+morton-requires c κs = search needs
 
 mul-result : tie.Need-mul-result
-mul-result c = omega (arith, quad-small (c .before .args .t) (c .before .pre))
+mul-result c = omega (arith, morton-small (c .before .args .t) (c .before .pre))
 
 add-result : tie.Need-add-result
-add-result c = omega (arith, quad-small (c .before .args .t) (c .before .pre))
+add-result c = omega (arith, morton-small (c .before .args .t) (c .before .pre))
 
 sub-result : tie.Need-sub-result
 unfolding maxZoom
@@ -35,13 +35,13 @@ returns : tie.Need-returns
 unfolding maxZoom
 returns c =
     let t = c .before .before .args .t in
-    rw (c .before .quad .ensures) (ap (λ (n : ℕ). n % 2 ^ 64) (sym (place-shift t)) ∙ mod-eq-of-lt (omega (arith, place-small t (c .before .before .pre))))
+    rw (c .before .morton .ensures) (ap (λ (n : ℕ). n % 2 ^ 64) (sym (location-shift t)) ∙ mod-eq-of-lt (omega (arith, location-small t (c .before .before .pre))))
 
-pub place-spec : {M : Type 1} → statement M
-place-spec =
+pub location-spec : {M : Type 1} → statement M
+location-spec =
     tie.close
     (tie.spec
-    quad-requires
+    morton-requires
     mul-result
     add-result
     sub-result
