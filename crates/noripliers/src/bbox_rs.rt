@@ -1,10 +1,8 @@
 // Boxes of degrees: the calls of bbox.rs. A box is west, south, east, north; a comparison with NaN is false.
-use crate::give;
-use bbox::BBox;
-use bbox::LngLat;
 ghost use mathlib.Core.Path.{_≡_};
 ghost use Rattle.bbox.specs.Box.{box, containsBox, containsPoint, crosses, held, meets, parts, point, within};
-ghost use Rattle.noripliers.specs.Exported.{answered, asByte, boxesAt, never};
+ghost use Rattle.c_bbox.specs.Boxes.{boxesAt};
+ghost use Rattle.c_give.specs.Exported.{answered, asByte, never};
 
 // Whether a box goes over the antimeridian: its west is above its east.
 // Never refused.
@@ -18,13 +16,7 @@ pub extern "C" fn nori_bbox_crosses_antimeridian(
 ) -> u8
     ensures { λ r. ⌜ answered r (now (told .exit)) ≡ asByte (never (crosses (box west south east north))) ⌝ }
 {
-    let area = BBox {
-        west,
-        south,
-        east,
-        north,
-    };
-    give::yes_or_no(area.crosses_antimeridian(), told)
+    c_bbox::crosses_antimeridian(west, south, east, north, told)
 }
 
 // The same as nori_bbox_crosses_antimeridian.
@@ -39,13 +31,7 @@ pub extern "C" fn nori_bbox_is_antimeridian(
 ) -> u8
     ensures { λ r. ⌜ answered r (now (told .exit)) ≡ asByte (never (crosses (box west south east north))) ⌝ }
 {
-    let area = BBox {
-        west,
-        south,
-        east,
-        north,
-    };
-    give::yes_or_no(area.is_antimeridian(), told)
+    c_bbox::crosses_antimeridian(west, south, east, north, told)
 }
 
 // Whether a point lies in a box or on its edge; in one that crosses the antimeridian, from west on or up to east.
@@ -62,14 +48,7 @@ pub extern "C" fn nori_bbox_contains_lnglat(
 ) -> u8
     ensures { λ r. ⌜ answered r (now (told .exit)) ≡ asByte (never (containsPoint (box west south east north) (point lng lat))) ⌝ }
 {
-    let area = BBox {
-        west,
-        south,
-        east,
-        north,
-    };
-    let place = LngLat { lng, lat };
-    give::yes_or_no(area.contains_lnglat(place), told)
+    c_bbox::contains_lnglat(west, south, east, north, lng, lat, told)
 }
 
 // Whether the second box's edges lie inside the first's; where only the first crosses the antimeridian, from its west on
@@ -89,19 +68,17 @@ pub extern "C" fn nori_bbox_contains_bbox(
 ) -> u8
     ensures { λ r. ⌜ answered r (now (told .exit)) ≡ asByte (never (containsBox (box west south east north) (box western southern eastern northern))) ⌝ }
 {
-    let area = BBox {
+    c_bbox::contains_bbox(
         west,
         south,
         east,
         north,
-    };
-    let other = BBox {
-        west: western,
-        south: southern,
-        east: eastern,
-        north: northern,
-    };
-    give::yes_or_no(area.contains_bbox(other), told)
+        western,
+        southern,
+        eastern,
+        northern,
+        told,
+    )
 }
 
 // Whether the first box's edges lie inside the second's, with no notice of the antimeridian.
@@ -120,19 +97,17 @@ pub extern "C" fn nori_bbox_is_within(
 ) -> u8
     ensures { λ r. ⌜ answered r (now (told .exit)) ≡ asByte (never (within (box west south east north) (box western southern eastern northern))) ⌝ }
 {
-    let area = BBox {
+    c_bbox::is_within(
         west,
         south,
         east,
         north,
-    };
-    let other = BBox {
-        west: western,
-        south: southern,
-        east: eastern,
-        north: northern,
-    };
-    give::yes_or_no(area.is_within(other), told)
+        western,
+        southern,
+        eastern,
+        northern,
+        told,
+    )
 }
 
 // Whether two boxes meet, if only at an edge, with no notice of the antimeridian.
@@ -151,19 +126,17 @@ pub extern "C" fn nori_bbox_intersects(
 ) -> u8
     ensures { λ r. ⌜ answered r (now (told .exit)) ≡ asByte (never (meets (box west south east north) (box western southern eastern northern))) ⌝ }
 {
-    let area = BBox {
+    c_bbox::intersects(
         west,
         south,
         east,
         north,
-    };
-    let other = BBox {
-        west: western,
-        south: southern,
-        east: eastern,
-        north: northern,
-    };
-    give::yes_or_no(area.intersects(other), told)
+        western,
+        southern,
+        eastern,
+        northern,
+        told,
+    )
 }
 
 // The box itself with the count 1 and a second box of zeros; where it crosses the antimeridian, the part up to there and
@@ -187,23 +160,19 @@ pub extern "C" fn nori_bbox_bboxes(
 ) -> u8
     ensures { λ r. ⌜ answered r (boxesAt (box (now (w1 .exit)) (now (s1 .exit)) (now (e1 .exit)) (now (n1 .exit))) (box (now (w2 .exit)) (now (s2 .exit)) (now (e2 .exit)) (now (n2 .exit))) (now (count .exit))) ≡ never (held (parts (box west south east north))) ⌝ }
 {
-    let area = BBox {
+    c_bbox::bboxes(
         west,
         south,
         east,
         north,
-    };
-    let found = area.bboxes();
-    let first = found.first;
-    let second = found.second;
-    *count = found.count;
-    *w1 = first.west;
-    *s1 = first.south;
-    *e1 = first.east;
-    *n1 = first.north;
-    *w2 = second.west;
-    *s2 = second.south;
-    *e2 = second.east;
-    *n2 = second.north;
-    0
+        count,
+        w1,
+        s1,
+        e1,
+        n1,
+        w2,
+        s2,
+        e2,
+        n2,
+    )
 }

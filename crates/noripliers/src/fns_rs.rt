@@ -1,19 +1,16 @@
 // The tiles around a tile, and the numbers that stand for tiles: the calls of fns.rs.
-use crate::give;
-use errors::Check;
-use fns::LimitsAnswer;
-use ids::OffsetZoomAnswer;
-use tile::OptionU8;
 ghost use mathlib.Core.Path.{_≡_};
 ghost use Prim.Native.Nat.{_+_};
 ghost use mathlib.Core.Bool.{true, false};
+ghost use Rattle.c_fns.specs.Limits.{limitsAt};
+ghost use Rattle.c_give.specs.Exported.{answered, asByte, given, never};
+ghost use Rattle.c_ids.specs.OffsetZoom.{offsetZoomAt};
 ghost use Rattle.children.specs.Children.{childrenOf, clockwise, zOrder};
-ghost use Rattle.noripliers.specs.Exported.{answered, asByte, given, limitsAt, never, offsetZoomAt};
 ghost use Rattle.errors.specs.Answer.{answer};
-ghost use Rattle.fns.specs.Fns.{bbox2zoomOf, flipyOf, isTile, minMaxCase, minMaxOf, parentOf};
+ghost use Rattle.fns.specs.Fns.{bbox2zoomOf, flipyOf, isTile, minMaxOf, parentOf};
 ghost use Rattle.ids.specs.Entry.{entryOf, entryTileOf};
 ghost use Rattle.ids.specs.Id.{fromIdOf, toIdOf};
-ghost use Rattle.ids.specs.Rmid.{fromRmidOf, offsetZoomCase, offsetZoomOf, toRmidOf};
+ghost use Rattle.ids.specs.Rmid.{fromRmidOf, offsetZoomOf, toRmidOf};
 ghost use Rattle.neighbors.specs.Neighbors.{neighborsWritten, siblingsWritten};
 ghost use Rattle.tile.specs.OnMap.{tileAt, tileRefusal};
 
@@ -23,24 +20,7 @@ ghost use Rattle.tile.specs.OnMap.{tileAt, tileRefusal};
 pub extern "C" fn nori_minmax(zoom: u8, min: &mut u32, max: &mut u32) -> u8
     ensures { λ r. ⌜ answered r (limitsAt (now (min .exit)) (now (max .exit))) ≡ minMaxOf zoom ⌝ }
 {
-    limits(fns::minmax(zoom), min, max)
-}
-
-fn limits(answer: LimitsAnswer, min: &mut u32, max: &mut u32) -> u8
-    ensures { λ r. ⌜ answered r (limitsAt (now (min .exit)) (now (max .exit))) ≡ minMaxCase answer ⌝ }
-{
-    match answer {
-        LimitsAnswer::Found(found) => {
-            *min = found.min;
-            *max = found.max;
-            0
-        }
-        LimitsAnswer::Refused(why) => {
-            *min = 0;
-            *max = 0;
-            errors::number(why)
-        }
-    }
+    c_fns::minmax(zoom, min, max)
 }
 
 // Whether x, y and z name a tile of the map, told as yes or no.
@@ -49,7 +29,7 @@ fn limits(answer: LimitsAnswer, min: &mut u32, max: &mut u32) -> u8
 pub extern "C" fn nori_valid(x: u32, y: u32, z: u8, told: &mut u8) -> u8
     ensures { λ r. ⌜ answered r (now (told .exit)) ≡ asByte (never (isTile x y z)) ⌝ }
 {
-    give::yes_or_no(fns::valid(x, y, z), told)
+    c_fns::valid(x, y, z, told)
 }
 
 // The row counted from the other side of the map: 2^z - 1 - y.
@@ -58,7 +38,7 @@ pub extern "C" fn nori_valid(x: u32, y: u32, z: u8, told: &mut u8) -> u8
 pub extern "C" fn nori_flipy(y: u32, z: u8, row: &mut u32) -> u8
     ensures { λ r. ⌜ answered r (now (row .exit)) ≡ flipyOf y z ⌝ }
 {
-    give::u32_number(fns::flipy(y, z), row)
+    c_fns::flipy(y, z, row)
 }
 
 // The same as nori_flipy.
@@ -67,7 +47,7 @@ pub extern "C" fn nori_flipy(y: u32, z: u8, row: &mut u32) -> u8
 pub extern "C" fn nori_yflip(y: u32, z: u8, row: &mut u32) -> u8
     ensures { λ r. ⌜ answered r (now (row .exit)) ≡ flipyOf y z ⌝ }
 {
-    give::u32_number(fns::yflip(y, z), row)
+    c_fns::flipy(y, z, row)
 }
 
 // The ancestor at zoom z - 1 - n. n counts the steps beyond the parent; the Rust's None is 0.
@@ -84,7 +64,7 @@ pub extern "C" fn nori_parent(
 ) -> u8
     ensures { λ r. ⌜ answered r (tileAt (now (tx .exit)) (now (ty .exit)) (now (tz .exit))) ≡ parentOf x y z n ⌝ }
 {
-    give::tile(fns::parent(x, y, z, OptionU8::Some(n)), tx, ty, tz)
+    c_fns::parent(x, y, z, n, tx, ty, tz)
 }
 
 // The tiles of the target zoom inside a tile, each family clockwise by digits 0, 1, 3, 2.
@@ -101,8 +81,7 @@ pub extern "C" fn nori_children(
 ) -> u8
     ensures { λ r. ⌜ given r (now (count .exit)) (now (out .exit)) ≡ childrenOf clockwise x y z zoom (now (out .entry)) ⌝ }
 {
-    let answer = children::children(x, y, z, OptionU8::Some(zoom), out);
-    give::count(answer, count)
+    c_fns::children(x, y, z, zoom, out, count)
 }
 
 // The same, each family by digits 0, 1, 2, 3; the Rust's None is z + 1.
@@ -118,8 +97,7 @@ pub extern "C" fn nori_children_zorder(
 ) -> u8
     ensures { λ r. ⌜ given r (now (count .exit)) (now (out .exit)) ≡ childrenOf zOrder x y z zoom (now (out .entry)) ⌝ }
 {
-    let answer = children::children_zorder(x, y, z, OptionU8::Some(zoom), out);
-    give::count(answer, count)
+    c_fns::children_zorder(x, y, z, zoom, out, count)
 }
 
 // The four children of a tile, by digits 0, 1, 2, 3.
@@ -134,8 +112,7 @@ pub extern "C" fn nori_children1_zorder(
 ) -> u8
     ensures { λ r. ⌜ given r (now (count .exit)) (now (out .exit)) ≡ childrenOf zOrder x y z (z + 1) (now (out .entry)) ⌝ }
 {
-    let answer = children::children1_zorder(x, y, z, out);
-    give::count(answer, count)
+    c_fns::children1_zorder(x, y, z, out, count)
 }
 
 // The other three children of the tile's parent: beside it, above or below it, and across.
@@ -144,8 +121,7 @@ pub extern "C" fn nori_children1_zorder(
 pub extern "C" fn nori_siblings(x: u32, y: u32, z: u8, out: &mut [u64], count: &mut u64) -> u8
     ensures { λ r. ⌜ given r (now (count .exit)) (now (out .exit)) ≡ siblingsWritten x y z (now (out .entry)) ⌝ }
 {
-    let answer = neighbors::siblings(x, y, z, out);
-    give::count(answer, count)
+    c_fns::siblings(x, y, z, out, count)
 }
 
 // The tiles of the map around a tile, in the Rust's order: none at zoom 0, the siblings at zoom 1.
@@ -154,8 +130,7 @@ pub extern "C" fn nori_siblings(x: u32, y: u32, z: u8, out: &mut [u64], count: &
 pub extern "C" fn nori_neighbors(x: u32, y: u32, z: u8, out: &mut [u64], count: &mut u64) -> u8
     ensures { λ r. ⌜ given r (now (count .exit)) (now (out .exit)) ≡ neighborsWritten false x y z (now (out .entry)) ⌝ }
 {
-    let answer = neighbors::neighbors(x, y, z, out);
-    give::count(answer, count)
+    c_fns::neighbors(x, y, z, out, count)
 }
 
 // The same from zoom 2 on where the last column stands beside the first, in the Rust's order for that.
@@ -170,8 +145,7 @@ pub extern "C" fn nori_neighbors_wrap_x(
 ) -> u8
     ensures { λ r. ⌜ given r (now (count .exit)) (now (out .exit)) ≡ neighborsWritten true x y z (now (out .entry)) ⌝ }
 {
-    let answer = neighbors::neighbors_wrap_x(x, y, z, out);
-    give::count(answer, count)
+    c_fns::neighbors_wrap_x(x, y, z, out, count)
 }
 
 // The first bit from the top, counted from 0, where west and east or south and north differ, at most 28.
@@ -180,8 +154,7 @@ pub extern "C" fn nori_neighbors_wrap_x(
 pub extern "C" fn nori_bbox2zoom(west: u32, south: u32, east: u32, north: u32, zoom: &mut u8) -> u8
     ensures { λ r. ⌜ answered r (now (zoom .exit)) ≡ never (bbox2zoomOf west south east north) ⌝ }
 {
-    *zoom = fns::bbox2zoom(west, south, east, north);
-    0
+    c_fns::bbox2zoom(west, south, east, north, zoom)
 }
 
 // The number (2^(z + 1) * y + x) * 32 + z of a tile.
@@ -190,7 +163,7 @@ pub extern "C" fn nori_bbox2zoom(west: u32, south: u32, east: u32, north: u32, z
 pub extern "C" fn nori_to_id(x: u32, y: u32, z: u8, id: &mut u64) -> u8
     ensures { λ r. ⌜ answered r (now (id .exit)) ≡ toIdOf x y z ⌝ }
 {
-    give::u64_number(ids::to_id(x, y, z), id)
+    c_ids::to_id(x, y, z, id)
 }
 
 // The tile of a number of nori_to_id.
@@ -199,7 +172,7 @@ pub extern "C" fn nori_to_id(x: u32, y: u32, z: u8, id: &mut u64) -> u8
 pub extern "C" fn nori_from_id(id: u64, tx: &mut u32, ty: &mut u32, tz: &mut u8) -> u8
     ensures { λ r. ⌜ answered r (tileAt (now (tx .exit)) (now (ty .exit)) (now (tz .exit))) ≡ fromIdOf id ⌝ }
 {
-    give::tile(ids::from_id(id), tx, ty, tz)
+    c_ids::from_id(id, tx, ty, tz)
 }
 
 // The number that stands for a tile in every list of tiles.
@@ -208,16 +181,7 @@ pub extern "C" fn nori_from_id(id: u64, tx: &mut u32, ty: &mut u32, tz: &mut u8)
 pub extern "C" fn nori_entry(x: u32, y: u32, z: u8, entry: &mut u64) -> u8
     ensures { λ r. ⌜ answered r (now (entry .exit)) ≡ answer (tileRefusal x y z) 0 (entryOf x y z) ⌝ }
 {
-    match tile::check(x, y, z) {
-        Check::Fine => {
-            *entry = ids::entry(x, y, z);
-            0
-        }
-        Check::Refused(why) => {
-            *entry = 0;
-            errors::number(why)
-        }
-    }
+    c_ids::entry(x, y, z, entry)
 }
 
 // The tile that a number in a list stands for.
@@ -226,7 +190,7 @@ pub extern "C" fn nori_entry(x: u32, y: u32, z: u8, entry: &mut u64) -> u8
 pub extern "C" fn nori_entry_tile(entry: u64, tx: &mut u32, ty: &mut u32, tz: &mut u8) -> u8
     ensures { λ r. ⌜ answered r (tileAt (now (tx .exit)) (now (ty .exit)) (now (tz .exit))) ≡ entryTileOf entry ⌝ }
 {
-    give::tile(ids::entry_tile(entry), tx, ty, tz)
+    c_ids::entry_tile(entry, tx, ty, tz)
 }
 
 // The number of a tile counted row by row, from the root on: (4^z - 1) / 3 + x + y * 2^z.
@@ -235,7 +199,7 @@ pub extern "C" fn nori_entry_tile(entry: u64, tx: &mut u32, ty: &mut u32, tz: &m
 pub extern "C" fn nori_xyz2rmid(x: u32, y: u32, z: u8, rmid: &mut u64) -> u8
     ensures { λ r. ⌜ answered r (now (rmid .exit)) ≡ toRmidOf x y z ⌝ }
 {
-    give::u64_number(ids::xyz2rmid(x, y, z), rmid)
+    c_ids::xyz2rmid(x, y, z, rmid)
 }
 
 // The tile of a number of nori_xyz2rmid.
@@ -244,7 +208,7 @@ pub extern "C" fn nori_xyz2rmid(x: u32, y: u32, z: u8, rmid: &mut u64) -> u8
 pub extern "C" fn nori_rmid2xyz(rmid: u64, tx: &mut u32, ty: &mut u32, tz: &mut u8) -> u8
     ensures { λ r. ⌜ answered r (tileAt (now (tx .exit)) (now (ty .exit)) (now (tz .exit))) ≡ fromRmidOf rmid ⌝ }
 {
-    give::tile(ids::rmid2xyz(rmid), tx, ty, tz)
+    c_ids::rmid2xyz(rmid, tx, ty, tz)
 }
 
 // The zoom of a number of nori_xyz2rmid, and its place among the tiles of that zoom, from 0 on.
@@ -253,22 +217,5 @@ pub extern "C" fn nori_rmid2xyz(rmid: u64, tx: &mut u32, ty: &mut u32, tz: &mut 
 pub extern "C" fn nori_int_2_offset_zoom(rmid: u64, offset: &mut u64, zoom: &mut u8) -> u8
     ensures { λ r. ⌜ answered r (offsetZoomAt (now (offset .exit)) (now (zoom .exit))) ≡ offsetZoomOf rmid ⌝ }
 {
-    offset_zoom(ids::int_2_offset_zoom(rmid), offset, zoom)
-}
-
-fn offset_zoom(answer: OffsetZoomAnswer, offset: &mut u64, zoom: &mut u8) -> u8
-    ensures { λ r. ⌜ answered r (offsetZoomAt (now (offset .exit)) (now (zoom .exit))) ≡ offsetZoomCase answer ⌝ }
-{
-    match answer {
-        OffsetZoomAnswer::Found(at) => {
-            *offset = at.offset;
-            *zoom = at.zoom;
-            0
-        }
-        OffsetZoomAnswer::Refused(why) => {
-            *offset = 0;
-            *zoom = 0;
-            errors::number(why)
-        }
-    }
+    c_ids::int_2_offset_zoom(rmid, offset, zoom)
 }

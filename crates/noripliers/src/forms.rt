@@ -1,18 +1,16 @@
 // Form lines, which the Rust does not have: what the program areas reads and prints. A form is (tiles K K ..), which settles
 // the tiles of keys, - for the root's, or (plus F F), (both F F) or (minus F F) of two forms. A line is without its newline.
-use crate::give;
-use form_stream::Feeding;
 use form_stream::KEPT;
 ghost use mathlib.Core.Path.{_≡_};
 ghost use mathlib.Core.List.{[]};
 ghost use lib.ListN.{take};
+ghost use Rattle.c_give.specs.Exported.{given};
 ghost use Rattle.errors.specs.Answer.{written};
 ghost use Rattle.form.specs.Reading.{lineRefusal};
 ghost use Rattle.form_area.specs.Area.{areaWritten};
 ghost use Rattle.form_line.specs.Line.{lineWritten};
 ghost use Rattle.form_stream.specs.Scan.{scanAt, feedOf};
 ghost use Rattle.form_stream.specs.Stream.{said};
-ghost use Rattle.noripliers.specs.Exported.{given};
 
 // Whether a line is refused before any key is read: nothing but the number comes back.
 // Refused: 13, 14, 15.
@@ -20,7 +18,7 @@ ghost use Rattle.noripliers.specs.Exported.{given};
 pub extern "C" fn nori_form_check(line: &[u8]) -> u8
     ensures { λ r. ⌜ r ≡ lineRefusal (now (line .entry)) ⌝ }
 {
-    give::check(form::check(line))
+    c_forms::check(line)
 }
 
 // The settled list of a line's form. Each list on the way has NORI_FORM_PLACES places, and out may have any number. 13, 14 and 15
@@ -30,8 +28,7 @@ pub extern "C" fn nori_form_check(line: &[u8]) -> u8
 pub extern "C" fn nori_form_area(line: &[u8], out: &mut [u64], count: &mut u64) -> u8
     ensures { λ r. ⌜ given r (now (count .exit)) (now (out .exit)) ≡ areaWritten (now (line .entry)) (now (out .entry)) ⌝ }
 {
-    let answer = form_area::area(line, out);
-    give::count(answer, count)
+    c_forms::area(line, out, count)
 }
 
 // What is printed for a line, without a newline: the count and the keys of its area, as (2 3 01), or its refusal, as
@@ -41,8 +38,7 @@ pub extern "C" fn nori_form_area(line: &[u8], out: &mut [u64], count: &mut u64) 
 pub extern "C" fn nori_form_answer(line: &[u8], out: &mut [u8], count: &mut u64) -> u8
     ensures { λ r. ⌜ given r (now (count .exit)) (now (out .exit)) ≡ lineWritten (now (line .entry)) (now (out .entry)) ⌝ }
 {
-    let answer = form_line::answer(line, out);
-    give::count(answer, count)
+    c_forms::answer(line, out, count)
 }
 
 // Takes in a chunk of the input behind a line of which line holds len bytes, 0 at first, and writes the answers of the lines that
@@ -62,12 +58,7 @@ pub extern "C" fn nori_form_feed(
 ) -> u8
     ensures { λ r. ⌜ (r ≡ 0) × (scanAt (now (next .exit)) (now (kept .exit)) (now (filled .exit)) (now (line .exit)) (now (out .exit)) ≡ feedOf (now (chunk .entry)) 0 len (now (line .entry)) (now (out .entry))) ⌝ }
 {
-    let fed = form_stream::feed(chunk, Feeding { at: 0, len }, line, out);
-    let feeding = fed.feeding;
-    *next = feeding.at as u64;
-    *kept = feeding.len as u64;
-    *filled = fed.filled as u64;
-    0
+    c_forms::feed(chunk, line, len, out, next, kept, filled)
 }
 
 // The end of the input: the answer of a last line without newline, of which line holds len bytes. Where len is 0 there is none.
@@ -81,6 +72,5 @@ pub extern "C" fn nori_form_finish(
 ) -> u8
     ensures { λ r. ⌜ given r (now (count .exit)) (now (out .exit)) ≡ written 0 (said (take len (now (line .entry))) []) (now (out .entry)) ⌝ }
 {
-    let answer = form_stream::finish(line, len, out);
-    give::count(answer, count)
+    c_forms::finish(line, len, out, count)
 }

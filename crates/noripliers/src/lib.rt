@@ -24,7 +24,6 @@ pub mod areas;
 pub mod bbox_rs;
 pub mod fns_rs;
 pub mod forms;
-mod give;
 pub mod merge_rs;
 pub mod parent_rs;
 pub mod quadkey_rs;

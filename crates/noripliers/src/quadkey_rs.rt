@@ -1,7 +1,7 @@
 // Quadkeys: the calls of quadkey.rs. A key is a byte '0' to '3' for each zoom from 1 on; the root's key is empty.
-use crate::give;
 ghost use mathlib.Core.Path.{_≡_};
-ghost use Rattle.noripliers.specs.Exported.{answered, asByte, given, never, partLength};
+ghost use Rattle.c_give.specs.Exported.{answered, asByte, given, never};
+ghost use Rattle.c_quadkey.specs.Part.{partLength};
 ghost use Rattle.quadkey.specs.Key.{ancestorRefusal, flipWritten, isDigit, isKey, keyRefusal, keyTile, keyWritten, leadingPart, sharedLength, sharedRefusal};
 ghost use Rattle.tile.specs.OnMap.{tileAt};
 
@@ -11,8 +11,7 @@ ghost use Rattle.tile.specs.OnMap.{tileAt};
 pub extern "C" fn nori_xyz2quadkey(x: u32, y: u32, z: u8, out: &mut [u8], count: &mut u64) -> u8
     ensures { λ r. ⌜ given r (now (count .exit)) (now (out .exit)) ≡ keyWritten 48 x y z (now (out .entry)) ⌝ }
 {
-    let answer = quadkey::xyz2quadkey(x, y, z, out);
-    give::count(answer, count)
+    c_quadkey::xyz2quadkey(x, y, z, out, count)
 }
 
 // The digits of a tile's key as the numbers 0 to 3.
@@ -21,8 +20,7 @@ pub extern "C" fn nori_xyz2quadkey(x: u32, y: u32, z: u8, out: &mut [u8], count:
 pub extern "C" fn nori_xyz2quadkey_vec(x: u32, y: u32, z: u8, out: &mut [u8], count: &mut u64) -> u8
     ensures { λ r. ⌜ given r (now (count .exit)) (now (out .exit)) ≡ keyWritten 0 x y z (now (out .entry)) ⌝ }
 {
-    let answer = quadkey::xyz2quadkey_vec(x, y, z, out);
-    give::count(answer, count)
+    c_quadkey::xyz2quadkey_vec(x, y, z, out, count)
 }
 
 // The tile of a key.
@@ -31,7 +29,7 @@ pub extern "C" fn nori_xyz2quadkey_vec(x: u32, y: u32, z: u8, out: &mut [u8], co
 pub extern "C" fn nori_quadkey2xyz(key: &[u8], tx: &mut u32, ty: &mut u32, tz: &mut u8) -> u8
     ensures { λ r. ⌜ answered r (tileAt (now (tx .exit)) (now (ty .exit)) (now (tz .exit))) ≡ keyTile (now (key .entry)) ⌝ }
 {
-    give::tile(quadkey::quadkey2xyz(key), tx, ty, tz)
+    c_quadkey::quadkey2xyz(key, tx, ty, tz)
 }
 
 // Whether the bytes are a key: nothing but the number comes back.
@@ -40,7 +38,7 @@ pub extern "C" fn nori_quadkey2xyz(key: &[u8], tx: &mut u32, ty: &mut u32, tz: &
 pub extern "C" fn nori_quadkey_check(key: &[u8]) -> u8
     ensures { λ r. ⌜ r ≡ keyRefusal (now (key .entry)) ⌝ }
 {
-    give::check(quadkey::check(key))
+    c_quadkey::check(key)
 }
 
 // Whether the bytes are a key, told as yes or no.
@@ -49,7 +47,7 @@ pub extern "C" fn nori_quadkey_check(key: &[u8]) -> u8
 pub extern "C" fn nori_is_quadkey(key: &[u8], told: &mut u8) -> u8
     ensures { λ r. ⌜ answered r (now (told .exit)) ≡ asByte (never (isKey (now (key .entry)))) ⌝ }
 {
-    give::yes_or_no(quadkey::is_quadkey(key), told)
+    c_quadkey::is_quadkey(key, told)
 }
 
 // Whether a byte is a digit of a key.
@@ -58,7 +56,7 @@ pub extern "C" fn nori_is_quadkey(key: &[u8], told: &mut u8) -> u8
 pub extern "C" fn nori_is_quadkey_byte(b: u8, told: &mut u8) -> u8
     ensures { λ r. ⌜ answered r (now (told .exit)) ≡ asByte (never (isDigit b)) ⌝ }
 {
-    give::yes_or_no(quadkey::is_quadkey_byte(b), told)
+    c_quadkey::is_quadkey_byte(b, told)
 }
 
 // The key of the tile whose row is counted from the other side of the map: 0 and 2 change places, 1 and 3.
@@ -67,8 +65,7 @@ pub extern "C" fn nori_is_quadkey_byte(b: u8, told: &mut u8) -> u8
 pub extern "C" fn nori_quadkey_flipy(key: &[u8], out: &mut [u8], count: &mut u64) -> u8
     ensures { λ r. ⌜ given r (now (count .exit)) (now (out .exit)) ≡ flipWritten (now (key .entry)) (now (out .entry)) ⌝ }
 {
-    let answer = quadkey::quadkey_flipy(key, out);
-    give::count(answer, count)
+    c_quadkey::flipy(key, out, count)
 }
 
 // The key of the ancestor at zoom n is the first n bytes of the caller's own key: length is n.
@@ -77,9 +74,7 @@ pub extern "C" fn nori_quadkey_flipy(key: &[u8], out: &mut [u8], count: &mut u64
 pub extern "C" fn nori_ancestor_key(key: &[u8], n: usize, length: &mut u64) -> u8
     ensures { λ r. ⌜ answered r (now (length .exit)) ≡ partLength (ancestorRefusal (now (key .entry)) n) (leadingPart (key .entry) (ancestorRefusal (now (key .entry)) n) n) ⌝ }
 {
-    let part = quadkey::ancestor_key(key, n);
-    *length = part.len() as u64;
-    quadkey::ancestor_key_refusal(key, n)
+    c_quadkey::ancestor_key(key, n, length)
 }
 
 // The key of the deepest ancestor that two keys share is the first length bytes of a.
@@ -88,7 +83,5 @@ pub extern "C" fn nori_ancestor_key(key: &[u8], n: usize, length: &mut u64) -> u
 pub extern "C" fn nori_shared_key(a: &[u8], b: &[u8], length: &mut u64) -> u8
     ensures { λ r. ⌜ answered r (now (length .exit)) ≡ partLength (sharedRefusal (now (a .entry)) (now (b .entry))) (leadingPart (a .entry) (sharedRefusal (now (a .entry)) (now (b .entry))) (sharedLength (now (a .entry)) (now (b .entry)))) ⌝ }
 {
-    let part = quadkey::shared_key(a, b);
-    *length = part.len() as u64;
-    quadkey::shared_key_refusal(a, b)
+    c_quadkey::shared_key(a, b, length)
 }

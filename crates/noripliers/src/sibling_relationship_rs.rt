@@ -1,7 +1,6 @@
 // Which child of its parent a tile is: the call of sibling_relationship.rs.
-use sibling_relationship::SiblingRelationship;
 ghost use mathlib.Core.Path.{_≡_};
-ghost use Rattle.noripliers.specs.Exported.{answered, never};
+ghost use Rattle.c_give.specs.Exported.{answered, never};
 ghost use Rattle.sibling_relationship.specs.Relation.{relationAt};
 
 // Of any column and row: upper left 0, upper right 1, lower left 2, lower right 3.
@@ -10,7 +9,5 @@ ghost use Rattle.sibling_relationship.specs.Relation.{relationAt};
 pub extern "C" fn nori_sibling_relationship(x: u32, y: u32, relation: &mut u8) -> u8
     ensures { λ r. ⌜ answered r (now (relation .exit)) ≡ never (relationAt x y) ⌝ }
 {
-    let found = SiblingRelationship::from(x, y);
-    *relation = found.number();
-    0
+    c_parent::sibling_relationship(x, y, relation)
 }

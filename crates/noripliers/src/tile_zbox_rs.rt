@@ -1,22 +1,13 @@
 // Boxes of tiles: the calls of tile_zbox.rs. A box is a zoom and the least and the greatest x and y, both included.
-use crate::give;
-use tile::Tile;
-use tile_zbox::BoxAnswer;
-use tile_zbox::ExtentAnswer;
-use tile_zbox::TileZBox;
-use tile_zbox_iter::NextAnswer;
-use tile_zbox_iter::TileZBoxIterator;
-use tile_zboxes_iter::BoxesNextAnswer;
-use tile_zboxes_iter::TileZBoxesIterator;
 ghost use mathlib.Core.Path.{_≡_};
-ghost use Rattle.noripliers.specs.Cursors.{boxesStepNumbers, stepAt, stepNumbers};
-ghost use Rattle.noripliers.specs.Exported.{answered, asByte, given};
+ghost use Rattle.c_give.specs.Exported.{answered, asByte, given};
+ghost use Rattle.c_zbox_iter.specs.Step.{boxesStepNumbers, stepAt, stepNumbers};
 ghost use Rattle.tile.specs.OnMap.{tileAt};
-ghost use Rattle.tile_zbox.specs.Box.{boxAt, boxCase, boxRefusal, containsOf, dimensionsOf, dxOf, dxdyOf, dyOf, extentAt, extentCase, flipOf, fromTileOf, lengthOf, newOf, zoomDepthOf, zoomInOf};
-ghost use Rattle.tile_zbox_around.specs.Around.{fromTilesOf};
-ghost use Rattle.tile_zbox_iter.specs.Cursor.{cursorAt, nextCase, nextOf, sizeHintOf};
-ghost use Rattle.tile_zbox_numbers.specs.Boxes.{boxesFlipOf, numbersLengthOf};
-ghost use Rattle.tile_zboxes_iter.specs.Cursor.{boxesCursorAt, boxesNextCase, boxesNextOf};
+ghost use Rattle.tile_zbox.specs.Around.{fromTilesOf};
+ghost use Rattle.tile_zbox.specs.Box.{boxAt, boxRefusal, containsOf, dimensionsOf, dxOf, dxdyOf, dyOf, extentAt, flipOf, fromTileOf, lengthOf, newOf, zoomDepthOf, zoomInOf};
+ghost use Rattle.tile_zbox.specs.Boxes.{boxesFlipOf, numbersLengthOf};
+ghost use Rattle.tile_zbox.specs.Cursor.{cursorAt, nextOf};
+ghost use Rattle.tile_zbox_iter.specs.Cursor.{boxesCursorAt, boxesNextOf, sizeHintOf};
 
 // The box itself, where it is one of the map: no min above its max, and no max off the map.
 // Refused: 1, 10.
@@ -35,14 +26,7 @@ pub extern "C" fn nori_zbox_new(
 ) -> u8
     ensures { λ r. ⌜ answered r (boxAt (now (bz .exit)) (now (left .exit)) (now (right .exit)) (now (top .exit)) (now (bottom .exit))) ≡ newOf minx maxx miny maxy zoom ⌝ }
 {
-    give_box(
-        TileZBox::new(minx, maxx, miny, maxy, zoom),
-        bz,
-        left,
-        right,
-        top,
-        bottom,
-    )
+    c_zbox::new(minx, maxx, miny, maxy, zoom, bz, left, right, top, bottom)
 }
 
 // Whether it is a box of the map: nothing but the number comes back.
@@ -51,14 +35,7 @@ pub extern "C" fn nori_zbox_new(
 pub extern "C" fn nori_zbox_check(zoom: u8, minx: u32, maxx: u32, miny: u32, maxy: u32) -> u8
     ensures { λ r. ⌜ r ≡ boxRefusal (boxAt zoom minx maxx miny maxy) ⌝ }
 {
-    let area = TileZBox {
-        zoom,
-        minx,
-        maxx,
-        miny,
-        maxy,
-    };
-    give::check(area.check())
+    c_zbox::check(zoom, minx, maxx, miny, maxy)
 }
 
 // The box of one tile.
@@ -76,7 +53,7 @@ pub extern "C" fn nori_zbox_from_tile(
 ) -> u8
     ensures { λ r. ⌜ answered r (boxAt (now (bz .exit)) (now (left .exit)) (now (right .exit)) (now (top .exit)) (now (bottom .exit))) ≡ fromTileOf x y z ⌝ }
 {
-    give_box(TileZBox::from_tile(x, y, z), bz, left, right, top, bottom)
+    c_zbox::from_tile(x, y, z, bz, left, right, top, bottom)
 }
 
 // The smallest box around the listed tiles, which are of one zoom.
@@ -92,14 +69,7 @@ pub extern "C" fn nori_zbox_from_tiles(
 ) -> u8
     ensures { λ r. ⌜ answered r (boxAt (now (bz .exit)) (now (left .exit)) (now (right .exit)) (now (top .exit)) (now (bottom .exit))) ≡ fromTilesOf (now (list .entry)) ⌝ }
 {
-    give_box(
-        tile_zbox_around::from_tiles(list),
-        bz,
-        left,
-        right,
-        top,
-        bottom,
-    )
+    c_zbox::from_tiles(list, bz, left, right, top, bottom)
 }
 
 // Whether a tile lies in a box; one of another zoom does not.
@@ -118,14 +88,7 @@ pub extern "C" fn nori_zbox_contains_tile(
 ) -> u8
     ensures { λ r. ⌜ answered r (now (told .exit)) ≡ asByte (containsOf (boxAt zoom minx maxx miny maxy) x y z) ⌝ }
 {
-    let area = TileZBox {
-        zoom,
-        minx,
-        maxx,
-        miny,
-        maxy,
-    };
-    give::told(area.contains_tile(x, y, z), told)
+    c_zbox::contains_tile(zoom, minx, maxx, miny, maxy, x, y, z, told)
 }
 
 // The box with its rows counted from the other side of the map.
@@ -145,14 +108,7 @@ pub extern "C" fn nori_zbox_flipy(
 ) -> u8
     ensures { λ r. ⌜ answered r (boxAt (now (bz .exit)) (now (left .exit)) (now (right .exit)) (now (top .exit)) (now (bottom .exit))) ≡ flipOf (boxAt zoom minx maxx miny maxy) ⌝ }
 {
-    let area = TileZBox {
-        zoom,
-        minx,
-        maxx,
-        miny,
-        maxy,
-    };
-    give_box(area.flipy(), bz, left, right, top, bottom)
+    c_zbox::flipy(zoom, minx, maxx, miny, maxy, bz, left, right, top, bottom)
 }
 
 // The box of its tiles' children.
@@ -172,14 +128,7 @@ pub extern "C" fn nori_zbox_zoom_in(
 ) -> u8
     ensures { λ r. ⌜ answered r (boxAt (now (bz .exit)) (now (left .exit)) (now (right .exit)) (now (top .exit)) (now (bottom .exit))) ≡ zoomInOf (boxAt zoom minx maxx miny maxy) ⌝ }
 {
-    let area = TileZBox {
-        zoom,
-        minx,
-        maxx,
-        miny,
-        maxy,
-    };
-    give_box(area.zoom_in(), bz, left, right, top, bottom)
+    c_zbox::zoom_in(zoom, minx, maxx, miny, maxy, bz, left, right, top, bottom)
 }
 
 // The box of its tiles' descendants depth zooms down, for 0 the box itself.
@@ -200,14 +149,19 @@ pub extern "C" fn nori_zbox_zoom_depth(
 ) -> u8
     ensures { λ r. ⌜ answered r (boxAt (now (bz .exit)) (now (left .exit)) (now (right .exit)) (now (top .exit)) (now (bottom .exit))) ≡ zoomDepthOf (boxAt zoom minx maxx miny maxy) depth ⌝ }
 {
-    let area = TileZBox {
+    c_zbox::zoom_depth(
         zoom,
         minx,
         maxx,
         miny,
         maxy,
-    };
-    give_box(area.zoom_depth(depth), bz, left, right, top, bottom)
+        depth,
+        bz,
+        left,
+        right,
+        top,
+        bottom,
+    )
 }
 
 // How many tiles a box has.
@@ -223,14 +177,7 @@ pub extern "C" fn nori_zbox_length(
 ) -> u8
     ensures { λ r. ⌜ answered r (now (length .exit)) ≡ lengthOf (boxAt zoom minx maxx miny maxy) ⌝ }
 {
-    let area = TileZBox {
-        zoom,
-        minx,
-        maxx,
-        miny,
-        maxy,
-    };
-    give::u64_number(area.length(), length)
+    c_zbox::length(zoom, minx, maxx, miny, maxy, length)
 }
 
 // The same as nori_zbox_length.
@@ -246,14 +193,7 @@ pub extern "C" fn nori_zbox_size(
 ) -> u8
     ensures { λ r. ⌜ answered r (now (length .exit)) ≡ lengthOf (boxAt zoom minx maxx miny maxy) ⌝ }
 {
-    let area = TileZBox {
-        zoom,
-        minx,
-        maxx,
-        miny,
-        maxy,
-    };
-    give::u64_number(area.size(), length)
+    c_zbox::length(zoom, minx, maxx, miny, maxy, length)
 }
 
 // The greatest x less the least: one less than the columns.
@@ -269,14 +209,7 @@ pub extern "C" fn nori_zbox_dx(
 ) -> u8
     ensures { λ r. ⌜ answered r (now (across .exit)) ≡ dxOf (boxAt zoom minx maxx miny maxy) ⌝ }
 {
-    let area = TileZBox {
-        zoom,
-        minx,
-        maxx,
-        miny,
-        maxy,
-    };
-    give::u32_number(area.dx(), across)
+    c_zbox::dx(zoom, minx, maxx, miny, maxy, across)
 }
 
 // The greatest y less the least: one less than the rows.
@@ -292,14 +225,7 @@ pub extern "C" fn nori_zbox_dy(
 ) -> u8
     ensures { λ r. ⌜ answered r (now (down .exit)) ≡ dyOf (boxAt zoom minx maxx miny maxy) ⌝ }
 {
-    let area = TileZBox {
-        zoom,
-        minx,
-        maxx,
-        miny,
-        maxy,
-    };
-    give::u32_number(area.dy(), down)
+    c_zbox::dy(zoom, minx, maxx, miny, maxy, down)
 }
 
 // The same as nori_zbox_dx.
@@ -315,14 +241,7 @@ pub extern "C" fn nori_zbox_width(
 ) -> u8
     ensures { λ r. ⌜ answered r (now (across .exit)) ≡ dxOf (boxAt zoom minx maxx miny maxy) ⌝ }
 {
-    let area = TileZBox {
-        zoom,
-        minx,
-        maxx,
-        miny,
-        maxy,
-    };
-    give::u32_number(area.width(), across)
+    c_zbox::dx(zoom, minx, maxx, miny, maxy, across)
 }
 
 // The same as nori_zbox_dy.
@@ -338,14 +257,7 @@ pub extern "C" fn nori_zbox_height(
 ) -> u8
     ensures { λ r. ⌜ answered r (now (down .exit)) ≡ dyOf (boxAt zoom minx maxx miny maxy) ⌝ }
 {
-    let area = TileZBox {
-        zoom,
-        minx,
-        maxx,
-        miny,
-        maxy,
-    };
-    give::u32_number(area.height(), down)
+    c_zbox::dy(zoom, minx, maxx, miny, maxy, down)
 }
 
 // Both nori_zbox_dx and nori_zbox_dy.
@@ -362,14 +274,7 @@ pub extern "C" fn nori_zbox_dxdy(
 ) -> u8
     ensures { λ r. ⌜ answered r (extentAt (now (across .exit)) (now (down .exit))) ≡ dxdyOf (boxAt zoom minx maxx miny maxy) ⌝ }
 {
-    let area = TileZBox {
-        zoom,
-        minx,
-        maxx,
-        miny,
-        maxy,
-    };
-    give_extent(area.dxdy(), across, down)
+    c_zbox::dxdy(zoom, minx, maxx, miny, maxy, across, down)
 }
 
 // How many columns and how many rows a box has.
@@ -386,14 +291,7 @@ pub extern "C" fn nori_zbox_dimensions(
 ) -> u8
     ensures { λ r. ⌜ answered r (extentAt (now (across .exit)) (now (down .exit))) ≡ dimensionsOf (boxAt zoom minx maxx miny maxy) ⌝ }
 {
-    let area = TileZBox {
-        zoom,
-        minx,
-        maxx,
-        miny,
-        maxy,
-    };
-    give_extent(area.dimensions(), across, down)
+    c_zbox::dimensions(zoom, minx, maxx, miny, maxy, across, down)
 }
 
 // The box's tile behind the first before ones, x first, then y, with the count 1; after is before + 1.
@@ -415,18 +313,19 @@ pub extern "C" fn nori_zbox_next(
 ) -> u8
     ensures { λ r. ⌜ answered r (stepAt (now (count .exit)) (tileAt (now (tx .exit)) (now (ty .exit)) (now (tz .exit))) (now (after .exit))) ≡ stepNumbers (nextOf (cursorAt (boxAt zoom minx maxx miny maxy) before)) ⌝ }
 {
-    let range = TileZBox {
+    c_zbox_iter::next(
         zoom,
         minx,
         maxx,
         miny,
         maxy,
-    };
-    let cursor = TileZBoxIterator {
-        range,
-        given: before,
-    };
-    give_next(cursor.next(), count, tx, ty, tz, after)
+        before,
+        count,
+        tx,
+        ty,
+        tz,
+        after,
+    )
 }
 
 // How many tiles the Rust's iterator says are left of a box: all of them, also behind the first before ones.
@@ -443,18 +342,7 @@ pub extern "C" fn nori_zbox_size_hint(
 ) -> u8
     ensures { λ r. ⌜ answered r (now (length .exit)) ≡ sizeHintOf (cursorAt (boxAt zoom minx maxx miny maxy) before) ⌝ }
 {
-    let range = TileZBox {
-        zoom,
-        minx,
-        maxx,
-        miny,
-        maxy,
-    };
-    let cursor = TileZBoxIterator {
-        range,
-        given: before,
-    };
-    give::u64_number(cursor.size_hint(), length)
+    c_zbox_iter::size_hint(zoom, minx, maxx, miny, maxy, before, length)
 }
 
 // How many tiles several boxes have together, overlaps counted twice.
@@ -464,7 +352,7 @@ pub extern "C" fn nori_zbox_size_hint(
 pub extern "C" fn nori_zboxes_length(boxes: &[u32], length: &mut u64) -> u8
     ensures { λ r. ⌜ answered r (now (length .exit)) ≡ numbersLengthOf (now (boxes .entry)) ⌝ }
 {
-    give::u64_number(tile_zbox_numbers::boxes_length(boxes), length)
+    c_zbox::boxes_length(boxes, length)
 }
 
 // Several boxes with their rows counted from the other side of the map. Five numbers a box, as for nori_zboxes_length;
@@ -474,8 +362,7 @@ pub extern "C" fn nori_zboxes_length(boxes: &[u32], length: &mut u64) -> u8
 pub extern "C" fn nori_zboxes_flipy(boxes: &[u32], out: &mut [u32], count: &mut u64) -> u8
     ensures { λ r. ⌜ given r (now (count .exit)) (now (out .exit)) ≡ boxesFlipOf (now (boxes .entry)) (now (out .entry)) ⌝ }
 {
-    let answer = tile_zbox_numbers::boxes_flipy(boxes, out);
-    give::count(answer, count)
+    c_zbox::boxes_flipy(boxes, out, count)
 }
 
 // The tile of several boxes behind the first before ones, box by box, with the count 1; after is before + 1.
@@ -494,119 +381,5 @@ pub extern "C" fn nori_zboxes_next(
 ) -> u8
     ensures { λ r. ⌜ answered r (stepAt (now (count .exit)) (tileAt (now (tx .exit)) (now (ty .exit)) (now (tz .exit))) (now (after .exit))) ≡ boxesStepNumbers (boxesNextOf (boxesCursorAt before) (now (boxes .entry))) ⌝ }
 {
-    let cursor = TileZBoxesIterator { given: before };
-    give_boxes_next(cursor.next(boxes), count, tx, ty, tz, after)
-}
-
-fn give_box(
-    answer: BoxAnswer,
-    bz: &mut u8,
-    left: &mut u32,
-    right: &mut u32,
-    top: &mut u32,
-    bottom: &mut u32,
-) -> u8
-    ensures { λ r. ⌜ answered r (boxAt (now (bz .exit)) (now (left .exit)) (now (right .exit)) (now (top .exit)) (now (bottom .exit))) ≡ boxCase answer ⌝ }
-{
-    match answer {
-        BoxAnswer::Found(area) => {
-            *bz = area.zoom;
-            *left = area.minx;
-            *right = area.maxx;
-            *top = area.miny;
-            *bottom = area.maxy;
-            0
-        }
-        BoxAnswer::Refused(why) => {
-            *bz = 0;
-            *left = 0;
-            *right = 0;
-            *top = 0;
-            *bottom = 0;
-            errors::number(why)
-        }
-    }
-}
-
-fn give_extent(answer: ExtentAnswer, across: &mut u32, down: &mut u32) -> u8
-    ensures { λ r. ⌜ answered r (extentAt (now (across .exit)) (now (down .exit))) ≡ extentCase answer ⌝ }
-{
-    match answer {
-        ExtentAnswer::Found(extent) => {
-            *across = extent.across;
-            *down = extent.down;
-            0
-        }
-        ExtentAnswer::Refused(why) => {
-            *across = 0;
-            *down = 0;
-            errors::number(why)
-        }
-    }
-}
-
-fn give_next(
-    answer: NextAnswer,
-    count: &mut u8,
-    x: &mut u32,
-    y: &mut u32,
-    z: &mut u8,
-    after: &mut u64,
-) -> u8
-    ensures { λ r. ⌜ answered r (stepAt (now (count .exit)) (tileAt (now (x .exit)) (now (y .exit)) (now (z .exit))) (now (after .exit))) ≡ stepNumbers (nextCase answer) ⌝ }
-{
-    let none = Tile { x: 0, y: 0, z: 0 };
-    match answer {
-        NextAnswer::Given(t, cursor) => give_step(0, 1, t, cursor.given, count, x, y, z, after),
-        NextAnswer::End(cursor) => give_step(0, 0, none, cursor.given, count, x, y, z, after),
-        NextAnswer::Refused(why) => {
-            give_step(errors::number(why), 0, none, 0, count, x, y, z, after)
-        }
-    }
-}
-
-fn give_boxes_next(
-    answer: BoxesNextAnswer,
-    count: &mut u8,
-    x: &mut u32,
-    y: &mut u32,
-    z: &mut u8,
-    after: &mut u64,
-) -> u8
-    ensures { λ r. ⌜ answered r (stepAt (now (count .exit)) (tileAt (now (x .exit)) (now (y .exit)) (now (z .exit))) (now (after .exit))) ≡ boxesStepNumbers (boxesNextCase answer) ⌝ }
-{
-    let none = Tile { x: 0, y: 0, z: 0 };
-    match answer {
-        BoxesNextAnswer::Given(t, cursor) => {
-            give_step(0, 1, t, cursor.given, count, x, y, z, after)
-        }
-        BoxesNextAnswer::End(cursor) => {
-            give_step(0, 0, none, cursor.given, count, x, y, z, after)
-        }
-        BoxesNextAnswer::Refused(why) => {
-            give_step(errors::number(why), 0, none, 0, count, x, y, z, after)
-        }
-    }
-}
-
-// What a cursor's step gives, whichever cursor it is.
-fn give_step(
-    number: u8,
-    tiles: u8,
-    t: Tile,
-    given: u64,
-    count: &mut u8,
-    x: &mut u32,
-    y: &mut u32,
-    z: &mut u8,
-    after: &mut u64,
-) -> u8
-    ensures { λ r. ⌜ answered r (stepAt (now (count .exit)) (tileAt (now (x .exit)) (now (y .exit)) (now (z .exit))) (now (after .exit))) ≡ answered number (stepAt tiles t given) ⌝ }
-{
-    *count = tiles;
-    *x = t.x;
-    *y = t.y;
-    *z = t.z;
-    *after = given;
-    number
+    c_zbox_iter::boxes_next(boxes, before, count, tx, ty, tz, after)
 }

@@ -1,15 +1,12 @@
 // Zooms, sets of them and ranges: the calls of zoom.rs. A set is a number whose bit i is zoom i; its zooms, and those of lists and
 // ranges, go to 30.
-use crate::give;
-use zoom::ZoomRange;
-use zoom::ZoomSet;
-use zoom::ZoomSetAnswer;
 ghost use mathlib.Core.Path.{_≡_};
 ghost use Prim.Native.Nat.{suc, _-_, _^_};
 ghost use lib.Bits.{bitAnd};
+ghost use Rattle.c_give.specs.Exported.{answered, given, never};
+ghost use Rattle.c_zoom.specs.Ranges.{givenTwo};
 ghost use Rattle.errors.specs.Answer.{written};
-ghost use Rattle.noripliers.specs.Exported.{answered, given, givenTwo, never};
-ghost use Rattle.zoom.specs.Zooms.{andZoom, lastZoom, maxXY, rangeOf, rangeSet, rangesOf, zoomBit, zoomBitRev, zoomSetCase, zoomsOf, zoomsOfRev, zvecSet, zvecSetRev};
+ghost use Rattle.zoom.specs.Zooms.{andZoom, lastZoom, maxXY, rangeOf, rangeSet, rangesOf, zoomBit, zoomBitRev, zoomsOf, zoomsOfRev, zvecSet, zvecSetRev};
 
 // The last column, and the last row, of a zoom: 2^zoom - 1.
 // Refused: 1.
@@ -17,7 +14,7 @@ ghost use Rattle.zoom.specs.Zooms.{andZoom, lastZoom, maxXY, rangeOf, rangeSet,
 pub extern "C" fn nori_zoom_max_xy(zoom: u8, max: &mut u32) -> u8
     ensures { λ r. ⌜ answered r (now (max .exit)) ≡ maxXY zoom ⌝ }
 {
-    give::u32_number(zoom::zoom_max_xy(zoom), max)
+    c_zoom::zoom_max_xy(zoom, max)
 }
 
 // The zooms of a set, rising. A set with bit 31 is read the other way round: zoom i is bit 30 - i.
@@ -26,8 +23,7 @@ pub extern "C" fn nori_zoom_max_xy(zoom: u8, max: &mut u32) -> u8
 pub extern "C" fn nori_zset2zvec(zset: u32, out: &mut [u8], count: &mut u64) -> u8
     ensures { λ r. ⌜ given r (now (count .exit)) (now (out .exit)) ≡ written 0 (zoomsOf zset) (now (out .entry)) ⌝ }
 {
-    let answer = zoom::zset2zvec(zset, out);
-    give::count(answer, count)
+    c_zoom::zset2zvec(zset, out, count)
 }
 
 // The zooms of a set that is read the other way round whatever its bit 31 is, rising.
@@ -36,8 +32,7 @@ pub extern "C" fn nori_zset2zvec(zset: u32, out: &mut [u8], count: &mut u64) -> 
 pub extern "C" fn nori_zset2zvec_rev(zset: u32, out: &mut [u8], count: &mut u64) -> u8
     ensures { λ r. ⌜ given r (now (count .exit)) (now (out .exit)) ≡ written 0 (zoomsOfRev zset) (now (out .entry)) ⌝ }
 {
-    let answer = zoom::zset2zvec_rev(zset, out);
-    give::count(answer, count)
+    c_zoom::zset2zvec_rev(zset, out, count)
 }
 
 // The set of the listed zooms.
@@ -46,7 +41,7 @@ pub extern "C" fn nori_zset2zvec_rev(zset: u32, out: &mut [u8], count: &mut u64)
 pub extern "C" fn nori_zvec2zset(zvec: &[u8], zset: &mut u32) -> u8
     ensures { λ r. ⌜ answered r (now (zset .exit)) ≡ zvecSet (now (zvec .entry)) ⌝ }
 {
-    give::u32_number(zoom::zvec2zset(zvec), zset)
+    c_zoom::zvec2zset(zvec, zset)
 }
 
 // The number of the listed zooms whose bit 31 - i is zoom i.
@@ -55,7 +50,7 @@ pub extern "C" fn nori_zvec2zset(zvec: &[u8], zset: &mut u32) -> u8
 pub extern "C" fn nori_zvec2zset_rev(zvec: &[u8], zset: &mut u32) -> u8
     ensures { λ r. ⌜ answered r (now (zset .exit)) ≡ zvecSetRev (now (zvec .entry)) ⌝ }
 {
-    give::u32_number(zoom::zvec2zset_rev(zvec), zset)
+    c_zoom::zvec2zset_rev(zvec, zset)
 }
 
 // The runs of the zooms 1 to 29 of a set, which is never read the other way round: the lowest zoom of each run in lows,
@@ -70,8 +65,7 @@ pub extern "C" fn nori_zoom_ranges(
 ) -> u8
     ensures { λ r. ⌜ givenTwo r (now (count .exit)) (now (lows .exit)) (now (highs .exit)) ≡ rangesOf zset (now (lows .entry)) (now (highs .entry)) ⌝ }
 {
-    let answer = zoom::zoom_ranges(zset, lows, highs);
-    give::count(answer, count)
+    c_zoom::zoom_ranges(zset, lows, highs, count)
 }
 
 // The set of all zooms, 0 to 30.
@@ -80,8 +74,7 @@ pub extern "C" fn nori_zoom_ranges(
 pub extern "C" fn nori_zset_all(zset: &mut u32) -> u8
     ensures { λ r. ⌜ answered r (now (zset .exit)) ≡ never (2 ^ suc lastZoom - 1) ⌝ }
 {
-    *zset = ZoomSet::all().number();
-    0
+    c_zoom::zset_all(zset)
 }
 
 // The same as nori_zvec2zset.
@@ -90,7 +83,7 @@ pub extern "C" fn nori_zset_all(zset: &mut u32) -> u8
 pub extern "C" fn nori_zset_from_zooms(zooms: &[u8], zset: &mut u32) -> u8
     ensures { λ r. ⌜ answered r (now (zset .exit)) ≡ zvecSet (now (zooms .entry)) ⌝ }
 {
-    give_set(ZoomSet::from_zooms(zooms), zset)
+    c_zoom::zvec2zset(zooms, zset)
 }
 
 // The same as nori_zset2zvec.
@@ -99,9 +92,7 @@ pub extern "C" fn nori_zset_from_zooms(zooms: &[u8], zset: &mut u32) -> u8
 pub extern "C" fn nori_zset_to_zooms(zset: u32, out: &mut [u8], count: &mut u64) -> u8
     ensures { λ r. ⌜ given r (now (count .exit)) (now (out .exit)) ≡ written 0 (zoomsOf zset) (now (out .entry)) ⌝ }
 {
-    let set = ZoomSet::new(zset);
-    let answer = set.to_zooms(out);
-    give::count(answer, count)
+    c_zoom::zset2zvec(zset, out, count)
 }
 
 // The same as nori_zoom_ranges.
@@ -115,9 +106,7 @@ pub extern "C" fn nori_zset_zoom_ranges(
 ) -> u8
     ensures { λ r. ⌜ givenTwo r (now (count .exit)) (now (lows .exit)) (now (highs .exit)) ≡ rangesOf zset (now (lows .entry)) (now (highs .entry)) ⌝ }
 {
-    let set = ZoomSet::new(zset);
-    let answer = set.zoom_ranges(lows, highs);
-    give::count(answer, count)
+    c_zoom::zoom_ranges(zset, lows, highs, count)
 }
 
 // The bits that both sets have.
@@ -126,10 +115,7 @@ pub extern "C" fn nori_zset_zoom_ranges(
 pub extern "C" fn nori_zset_and(a: u32, b: u32, zset: &mut u32) -> u8
     ensures { λ r. ⌜ answered r (now (zset .exit)) ≡ never (bitAnd a b) ⌝ }
 {
-    let one = ZoomSet::new(a);
-    let other = ZoomSet::new(b);
-    *zset = one.and(other).number();
-    0
+    c_zoom::zset_and(a, b, zset)
 }
 
 // The bits that a set and a number both have.
@@ -138,9 +124,7 @@ pub extern "C" fn nori_zset_and(a: u32, b: u32, zset: &mut u32) -> u8
 pub extern "C" fn nori_zset_and_bits(a: u32, bits: u32, zset: &mut u32) -> u8
     ensures { λ r. ⌜ answered r (now (zset .exit)) ≡ never (bitAnd a bits) ⌝ }
 {
-    let set = ZoomSet::new(a);
-    *zset = set.and_bits(bits).number();
-    0
+    c_zoom::zset_and(a, bits, zset)
 }
 
 // What a set has of the bit that nori_zoom_bit_rev gives, as in the Rust.
@@ -149,8 +133,7 @@ pub extern "C" fn nori_zset_and_bits(a: u32, bits: u32, zset: &mut u32) -> u8
 pub extern "C" fn nori_zset_and_zoom(a: u32, zoom: u8, zset: &mut u32) -> u8
     ensures { λ r. ⌜ answered r (now (zset .exit)) ≡ andZoom a zoom ⌝ }
 {
-    let set = ZoomSet::new(a);
-    give_set(set.and_zoom(zoom), zset)
+    c_zoom::zset_and_zoom(a, zoom, zset)
 }
 
 // The set of one zoom.
@@ -159,7 +142,7 @@ pub extern "C" fn nori_zset_and_zoom(a: u32, zoom: u8, zset: &mut u32) -> u8
 pub extern "C" fn nori_zset_from_zoom(zoom: u8, zset: &mut u32) -> u8
     ensures { λ r. ⌜ answered r (now (zset .exit)) ≡ zoomBit zoom ⌝ }
 {
-    give_set(ZoomSet::from_zoom(zoom), zset)
+    c_zoom::zset_from_zoom(zoom, zset)
 }
 
 // The set of all zooms of a range: empty where min is above max.
@@ -168,7 +151,7 @@ pub extern "C" fn nori_zset_from_zoom(zoom: u8, zset: &mut u32) -> u8
 pub extern "C" fn nori_zoom_set(min: u8, max: u8, zset: &mut u32) -> u8
     ensures { λ r. ⌜ answered r (now (zset .exit)) ≡ rangeSet (rangeOf min max) ⌝ }
 {
-    give_set(zoom::zoom_set(ZoomRange { min, max }), zset)
+    c_zoom::zoom_set(min, max, zset)
 }
 
 // The bit of one zoom in numbers of nori_zvec2zset_rev: 2^(31 - zoom).
@@ -177,7 +160,7 @@ pub extern "C" fn nori_zoom_set(min: u8, max: u8, zset: &mut u32) -> u8
 pub extern "C" fn nori_zoom_bit_rev(zoom: u8, bit: &mut u32) -> u8
     ensures { λ r. ⌜ answered r (now (bit .exit)) ≡ zoomBitRev zoom ⌝ }
 {
-    give::u32_number(zoom::zoom_bit_rev(zoom), bit)
+    c_zoom::zoom_bit_rev(zoom, bit)
 }
 
 // The range from 0 to max.
@@ -186,7 +169,7 @@ pub extern "C" fn nori_zoom_bit_rev(zoom: u8, bit: &mut u32) -> u8
 pub extern "C" fn nori_zoom_range_from_max(max: u8, low: &mut u8, high: &mut u8) -> u8
     ensures { λ r. ⌜ answered r (rangeOf (now (low .exit)) (now (high .exit))) ≡ never (rangeOf 0 max) ⌝ }
 {
-    give_range(ZoomRange::from_max(max), low, high)
+    c_zoom::zoom_range_from_max(max, low, high)
 }
 
 // The range from min to 30.
@@ -195,7 +178,7 @@ pub extern "C" fn nori_zoom_range_from_max(max: u8, low: &mut u8, high: &mut u8)
 pub extern "C" fn nori_zoom_range_from_min(min: u8, low: &mut u8, high: &mut u8) -> u8
     ensures { λ r. ⌜ answered r (rangeOf (now (low .exit)) (now (high .exit))) ≡ never (rangeOf min lastZoom) ⌝ }
 {
-    give_range(ZoomRange::from_min(min), low, high)
+    c_zoom::zoom_range_from_min(min, low, high)
 }
 
 // The range from 0 to 30.
@@ -204,28 +187,5 @@ pub extern "C" fn nori_zoom_range_from_min(min: u8, low: &mut u8, high: &mut u8)
 pub extern "C" fn nori_zoom_range_default(low: &mut u8, high: &mut u8) -> u8
     ensures { λ r. ⌜ answered r (rangeOf (now (low .exit)) (now (high .exit))) ≡ never (rangeOf 0 lastZoom) ⌝ }
 {
-    give_range(ZoomRange::default(), low, high)
-}
-
-fn give_range(range: ZoomRange, low: &mut u8, high: &mut u8) -> u8
-    ensures { λ r. ⌜ answered r (rangeOf (now (low .exit)) (now (high .exit))) ≡ never range ⌝ }
-{
-    *low = range.min;
-    *high = range.max;
-    0
-}
-
-fn give_set(answer: ZoomSetAnswer, zset: &mut u32) -> u8
-    ensures { λ r. ⌜ answered r (now (zset .exit)) ≡ zoomSetCase answer ⌝ }
-{
-    match answer {
-        ZoomSetAnswer::Set(set) => {
-            *zset = set.number();
-            0
-        }
-        ZoomSetAnswer::Refused(why) => {
-            *zset = 0;
-            errors::number(why)
-        }
-    }
+    c_zoom::zoom_range_default(low, high)
 }

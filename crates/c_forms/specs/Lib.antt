@@ -1,0 +1,1 @@
+-- The promises cite other crates' definitions alone.

@@ -1,2 +1,0 @@
-pub mod Cursors
-pub mod Exported
