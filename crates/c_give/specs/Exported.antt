@@ -24,9 +24,7 @@ pub bool-goes-out-as-1-or-0 : (b : Bool) → boolByte b ≡ cond b 1 0
 bool-goes-out-as-1-or-0 true = refl
 bool-goes-out-as-1-or-0 false = refl
 
-pub same-told : {a b : Bool} → a ≡ b → asByte (never a) ≡ asByte (never b)
-same-told e = ap (λ (b : Bool). asByte (never b)) e
-
 -- a count that is handed on is the answer's, beside the memory that the call left
-pub handed-on : {r n : ℕ} {memory : List ℕ} {a : Answer ℕ} {L : Lent ℕ} → answered r n ≡ a → given (a .number) (a .value) memory ≡ L → given r n memory ≡ L
+pub handed-on : {r n : ℕ} {memory : List ℕ} {a : Answer ℕ} {L : Lent ℕ} → answered r n ≡ a
+    → given (a .number) (a .value) memory ≡ L → given r n memory ≡ L
 handed-on {memory = memory} e f = ap (λ (a : Answer ℕ). given (a .number) (a .value) memory) e ∙ f

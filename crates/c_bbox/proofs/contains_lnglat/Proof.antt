@@ -4,4 +4,6 @@ use Rattle.c_bbox.proofs.contains_lnglat.Statement.{statement}
 use Rattle.c_bbox.proofs.contains_lnglat.Tie as tie
 
 pub contains-lnglat-spec : {M : Type 1} → statement M
-contains-lnglat-spec = tie.close (tie.spec (λ c κs. search needs) (λ c κs. search needs) (λ c κs. search needs) (λ c. rw (c .before .before .contains-lnglat .ensures, c .before .before .before .bbox .ensures) at (c .yes-or-no .ensures)))
+contains-lnglat-spec =
+    tie.close (tie.spec (λ c κs. search needs) (λ c κs. search needs) (λ c κs. search needs)
+    (λ c. rw (c .before .before .contains-lnglat .ensures, c .before .before .before .bbox .ensures) at (c .yes-or-no .ensures)))

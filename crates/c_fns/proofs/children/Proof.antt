@@ -5,4 +5,6 @@ use Rattle.c_fns.proofs.children.Statement.{statement}
 use Rattle.c_fns.proofs.children.Tie as tie
 
 pub children-spec : {M : Type 1} → statement M
-children-spec = tie.close (tie.spec (λ c κs. search needs) (λ c κs. search needs) (λ c. search needs) (λ c. handed-on (c .count .ensures) (c .before .before .before .before .children .ensures)))
+children-spec =
+    tie.close (tie.spec (λ c κs. search needs) (λ c κs. search needs) (λ c. search needs)
+    (λ c. handed-on (c .count .ensures) (c .before .before .before .before .children .ensures)))

@@ -5,4 +5,6 @@ use Rattle.c_fns.proofs.children_zorder.Statement.{statement}
 use Rattle.c_fns.proofs.children_zorder.Tie as tie
 
 pub children-zorder-spec : {M : Type 1} → statement M
-children-zorder-spec = tie.close (tie.spec (λ c κs. search needs) (λ c κs. search needs) (λ c. search needs) (λ c. handed-on (c .count .ensures) (c .before .before .before .before .children-zorder .ensures)))
+children-zorder-spec =
+    tie.close (tie.spec (λ c κs. search needs) (λ c κs. search needs) (λ c. search needs)
+    (λ c. handed-on (c .count .ensures) (c .before .before .before .before .children-zorder .ensures)))

@@ -5,4 +5,6 @@ use Rattle.c_fns.proofs.siblings.Statement.{statement}
 use Rattle.c_fns.proofs.siblings.Tie as tie
 
 pub siblings-spec : {M : Type 1} → statement M
-siblings-spec = tie.close (tie.spec (λ c κs. search needs) (λ c κs. search needs) (λ c. search needs) (λ c. handed-on (c .count .ensures) (c .before .before .before .before .siblings .ensures)))
+siblings-spec =
+    tie.close (tie.spec (λ c κs. search needs) (λ c κs. search needs) (λ c. search needs)
+    (λ c. handed-on (c .count .ensures) (c .before .before .before .before .siblings .ensures)))

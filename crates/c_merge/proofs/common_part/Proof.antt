@@ -5,4 +5,6 @@ use Rattle.c_merge.proofs.common_part.Statement.{statement}
 use Rattle.c_merge.proofs.common_part.Tie as tie
 
 pub common-part-spec : {M : Type 1} → statement M
-common-part-spec = tie.close (tie.spec (λ c κs. search needs) (λ c κs. search needs) (λ c. search needs) (λ c. handed-on (c .count .ensures) (c .before .before .before .before .common-part .ensures)))
+common-part-spec =
+    tie.close (tie.spec (λ c κs. search needs) (λ c κs. search needs) (λ c. search needs)
+    (λ c. handed-on (c .count .ensures) (c .before .before .before .before .common-part .ensures)))

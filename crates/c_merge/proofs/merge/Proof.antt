@@ -23,4 +23,5 @@ refused c =
     ∙ ap inNumbers (sym (ap (λ (a : MergeAnswer). mergedLeft a (r .last .1 .1 .0)) (c .before .before .why .given .1)) ∙ r .ensures)
 
 pub merge-spec : {M : Type 1} → statement M
-merge-spec = tie.close (tie.spec (λ c κs. search needs) (λ c. search needs) (λ c. search needs) (λ c. search needs) (λ c κs. search needs) (λ c. search needs) found (λ c. search needs) refused)
+merge-spec =
+    tie.close (tie.spec (λ c κs. search needs) (λ c. search needs) (λ c. search needs) (λ c. search needs) (λ c κs. search needs) (λ c. search needs) found (λ c. search needs) refused)

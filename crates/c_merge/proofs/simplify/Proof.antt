@@ -5,4 +5,6 @@ use Rattle.c_merge.proofs.simplify.Statement.{statement}
 use Rattle.c_merge.proofs.simplify.Tie as tie
 
 pub simplify-spec : {M : Type 1} → statement M
-simplify-spec = tie.close (tie.spec (λ c κs. search needs) (λ c κs. search needs) (λ c. search needs) (λ c. handed-on (c .count .ensures) (c .before .before .before .before .simplify .ensures)))
+simplify-spec =
+    tie.close (tie.spec (λ c κs. search needs) (λ c κs. search needs) (λ c. search needs)
+    (λ c. handed-on (c .count .ensures) (c .before .before .before .before .simplify .ensures)))

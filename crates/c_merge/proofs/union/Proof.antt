@@ -5,4 +5,6 @@ use Rattle.c_merge.proofs.union.Statement.{statement}
 use Rattle.c_merge.proofs.union.Tie as tie
 
 pub union-spec : {M : Type 1} → statement M
-union-spec = tie.close (tie.spec (λ c κs. search needs) (λ c κs. search needs) (λ c. search needs) (λ c. handed-on (c .count .ensures) (c .before .before .before .before .union .ensures)))
+union-spec =
+    tie.close (tie.spec (λ c κs. search needs) (λ c κs. search needs) (λ c. search needs)
+    (λ c. handed-on (c .count .ensures) (c .before .before .before .before .union .ensures)))

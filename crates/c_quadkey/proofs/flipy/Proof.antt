@@ -5,4 +5,6 @@ use Rattle.c_quadkey.proofs.flipy.Statement.{statement}
 use Rattle.c_quadkey.proofs.flipy.Tie as tie
 
 pub flipy-spec : {M : Type 1} → statement M
-flipy-spec = tie.close (tie.spec (λ c κs. search needs) (λ c κs. search needs) (λ c. search needs) (λ c. handed-on (c .count .ensures) (c .before .before .before .before .quadkey-flipy .ensures)))
+flipy-spec =
+    tie.close (tie.spec (λ c κs. search needs) (λ c κs. search needs) (λ c. search needs)
+    (λ c. handed-on (c .count .ensures) (c .before .before .before .before .quadkey-flipy .ensures)))

@@ -5,4 +5,6 @@ use Rattle.c_quadkey.proofs.xyz2quadkey_vec.Statement.{statement}
 use Rattle.c_quadkey.proofs.xyz2quadkey_vec.Tie as tie
 
 pub xyz2quadkey-vec-spec : {M : Type 1} → statement M
-xyz2quadkey-vec-spec = tie.close (tie.spec (λ c κs. search needs) (λ c κs. search needs) (λ c. search needs) (λ c. handed-on (c .count .ensures) (c .before .before .before .before .xyz2quadkey-vec .ensures)))
+xyz2quadkey-vec-spec =
+    tie.close (tie.spec (λ c κs. search needs) (λ c κs. search needs) (λ c. search needs)
+    (λ c. handed-on (c .count .ensures) (c .before .before .before .before .xyz2quadkey-vec .ensures)))

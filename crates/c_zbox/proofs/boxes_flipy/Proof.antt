@@ -5,4 +5,6 @@ use Rattle.c_zbox.proofs.boxes_flipy.Statement.{statement}
 use Rattle.c_zbox.proofs.boxes_flipy.Tie as tie
 
 pub boxes-flipy-spec : {M : Type 1} → statement M
-boxes-flipy-spec = tie.close (tie.spec (λ c κs. search needs) (λ c κs. search needs) (λ c. search needs) (λ c. handed-on (c .count .ensures) (c .before .before .before .before .boxes-flipy .ensures)))
+boxes-flipy-spec =
+    tie.close (tie.spec (λ c κs. search needs) (λ c κs. search needs) (λ c. search needs)
+    (λ c. handed-on (c .count .ensures) (c .before .before .before .before .boxes-flipy .ensures)))

@@ -5,4 +5,6 @@ use Rattle.c_zoom.proofs.give_set.Tie as tie
 use Rattle.zoom.proofs.ZoomSet.number.Reads as ZoomSet-number-reads
 
 pub give-set-spec : {M : Type 1} → statement M
-give-set-spec = tie.close (tie.spec (λ c. search needs) (λ c κs. search needs) (λ c. search needs) (λ c κs. search needs) (λ c. search needs) (λ c. rw (c .number2 .ensures, c .before .before .answer2 .given .1)))
+give-set-spec =
+    tie.close (tie.spec (λ c. search needs) (λ c κs. search needs) (λ c. search needs) (λ c κs. search needs) (λ c. search needs)
+    (λ c. rw (c .number2 .ensures, c .before .before .answer2 .given .1)))

@@ -5,4 +5,6 @@ use Rattle.c_zoom.proofs.zset2zvec.Statement.{statement}
 use Rattle.c_zoom.proofs.zset2zvec.Tie as tie
 
 pub zset2zvec-spec : {M : Type 1} → statement M
-zset2zvec-spec = tie.close (tie.spec (λ c κs. search needs) (λ c κs. search needs) (λ c. search needs) (λ c. handed-on (c .count .ensures) (c .before .before .before .before .zset2zvec .ensures)))
+zset2zvec-spec =
+    tie.close (tie.spec (λ c κs. search needs) (λ c κs. search needs) (λ c. search needs)
+    (λ c. handed-on (c .count .ensures) (c .before .before .before .before .zset2zvec .ensures)))
