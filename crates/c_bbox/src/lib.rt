@@ -116,6 +116,7 @@ pub fn bboxes(
     0
 }
 
+// The box that the numbers of a call stand for.
 fn bbox(west: f64, south: f64, east: f64, north: f64) -> BBox
     ensures { λ r. ⌜ r ≡ box west south east north ⌝ }
 {

@@ -1,4 +1,4 @@
-// Answers that more than one module hands on: the number comes back, the value goes behind the pointers.
+// Answers that more than one crate hands on: the number comes back, the value goes behind the pointers.
 use errors::BoolAnswer;
 use errors::Check;
 use errors::Count;

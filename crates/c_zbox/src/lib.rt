@@ -268,6 +268,7 @@ fn give_extent(answer: ExtentAnswer, across: &mut u32, down: &mut u32) -> u8
     }
 }
 
+// The box that the numbers of a call stand for.
 pub fn zbox(zoom: u8, minx: u32, maxx: u32, miny: u32, maxy: u32) -> TileZBox
     ensures { λ r. ⌜ r ≡ boxAt zoom minx maxx miny maxy ⌝ }
 {

@@ -1,1 +1,0 @@
--- The promises cite other crates' definitions alone.
