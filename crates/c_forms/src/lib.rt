@@ -41,7 +41,8 @@ pub fn feed(
     kept: &mut u64,
     filled: &mut u64,
 ) -> u8
-    ensures { λ r. ⌜ (r ≡ 0) × (scanAt (now (next .exit)) (now (kept .exit)) (now (filled .exit)) (now (line .exit)) (now (out .exit)) ≡ feedOf (now (chunk .entry)) 0 len (now (line .entry)) (now (out .entry))) ⌝ }
+    ensures { λ r. ⌜ (r ≡ 0) × (scanAt (now (next .exit)) (now (kept .exit)) (now (filled .exit)) (now (line .exit)) (now (out .exit))
+        ≡ feedOf (now (chunk .entry)) 0 len (now (line .entry)) (now (out .entry))) ⌝ }
 {
     let fed = form_stream::feed(chunk, Feeding { at: 0, len }, line, out);
     let feeding = fed.feeding;

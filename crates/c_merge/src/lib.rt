@@ -9,7 +9,8 @@ ghost use Rattle.merge.specs.Merge.{mergeOf, simplifyOf, simplifyV1Of};
 ghost use Rattle.settled.specs.Answers.{isSettledOf};
 
 pub fn merge(list: &[u64], minzoom: u8, out: &mut [u64], count: &mut u64, changed: &mut u8) -> u8
-    ensures { λ r. ⌜ givenMerge r (now (count .exit)) (now (changed .exit)) (now (out .exit)) ≡ inNumbers (mergeOf (now (list .entry)) minzoom (now (out .entry))) ⌝ }
+    ensures { λ r. ⌜ givenMerge r (now (count .exit)) (now (changed .exit)) (now (out .exit))
+        ≡ inNumbers (mergeOf (now (list .entry)) minzoom (now (out .entry))) ⌝ }
 {
     match merge::merge(list, OptionU8::Some(minzoom), out) {
         MergeAnswer::Found(merged) => {

@@ -49,7 +49,8 @@ pub fn next(
     ry: &mut u32,
     rz: &mut u8,
 ) -> u8
-    ensures { λ r. ⌜ answered r (nextAt (heldAt (now (count .exit)) (now (tx .exit)) (now (ty .exit)) (now (tz .exit))) (heldAt (now (rest .exit)) (now (rx .exit)) (now (ry .exit)) (now (rz .exit)))) ≡ nextNumbers (nextOf (holding held x y z)) ⌝ }
+    ensures { λ r. ⌜ answered r (nextAt (heldAt (now (count .exit)) (now (tx .exit)) (now (ty .exit)) (now (tz .exit)))
+        (heldAt (now (rest .exit)) (now (rx .exit)) (now (ry .exit)) (now (rz .exit)))) ≡ nextNumbers (nextOf (holding held x y z)) ⌝ }
 {
     let current = holding(held, x, y, z);
     let cursor = Parents { current };

@@ -51,7 +51,8 @@ pub fn flipy(key: &[u8], out: &mut [u8], count: &mut u64) -> u8
 }
 
 pub fn ancestor_key(key: &[u8], n: usize, length: &mut u64) -> u8
-    ensures { λ r. ⌜ answered r (now (length .exit)) ≡ partLength (ancestorRefusal (now (key .entry)) n) (leadingPart (key .entry) (ancestorRefusal (now (key .entry)) n) n) ⌝ }
+    ensures { λ r. ⌜ answered r (now (length .exit))
+        ≡ partLength (ancestorRefusal (now (key .entry)) n) (leadingPart (key .entry) (ancestorRefusal (now (key .entry)) n) n) ⌝ }
 {
     let part = quadkey::ancestor_key(key, n);
     *length = part.len() as u64;
@@ -59,7 +60,9 @@ pub fn ancestor_key(key: &[u8], n: usize, length: &mut u64) -> u8
 }
 
 pub fn shared_key(a: &[u8], b: &[u8], length: &mut u64) -> u8
-    ensures { λ r. ⌜ answered r (now (length .exit)) ≡ partLength (sharedRefusal (now (a .entry)) (now (b .entry))) (leadingPart (a .entry) (sharedRefusal (now (a .entry)) (now (b .entry))) (sharedLength (now (a .entry)) (now (b .entry)))) ⌝ }
+    ensures { λ r. ⌜ answered r (now (length .exit))
+        ≡ partLength (sharedRefusal (now (a .entry)) (now (b .entry)))
+        (leadingPart (a .entry) (sharedRefusal (now (a .entry)) (now (b .entry))) (sharedLength (now (a .entry)) (now (b .entry)))) ⌝ }
 {
     let part = quadkey::shared_key(a, b);
     *length = part.len() as u64;

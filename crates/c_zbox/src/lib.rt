@@ -4,9 +4,10 @@ use tile_zbox::ExtentAnswer;
 use tile_zbox::TileZBox;
 ghost use mathlib.Core.Path.{_≡_};
 ghost use Rattle.c_give.specs.Exported.{answered, asByte, given};
-ghost use Rattle.tile_zbox.specs.Around.{fromTilesOf};
-ghost use Rattle.tile_zbox.specs.Box.{boxAt, boxCase, boxRefusal, containsOf, dimensionsOf, dxOf, dxdyOf, dyOf, extentAt, extentCase, flipOf, fromTileOf, lengthOf, newOf, zoomDepthOf, zoomInOf};
-ghost use Rattle.tile_zbox.specs.Boxes.{boxesFlipOf, numbersLengthOf};
+ghost use Rattle.tile_zbox_around.specs.Around.{fromTilesOf};
+ghost use Rattle.tile_zbox.specs.Box.{boxAt, boxCase, boxRefusal, containsOf, dimensionsOf, dxOf, dxdyOf, dyOf, extentAt, extentCase};
+ghost use Rattle.tile_zbox.specs.Box.{flipOf, fromTileOf, lengthOf, newOf, zoomDepthOf, zoomInOf};
+ghost use Rattle.tile_zbox_numbers.specs.Boxes.{boxesFlipOf, numbersLengthOf};
 
 pub fn new(
     minx: u32,
@@ -20,7 +21,8 @@ pub fn new(
     top: &mut u32,
     bottom: &mut u32,
 ) -> u8
-    ensures { λ r. ⌜ answered r (boxAt (now (bz .exit)) (now (left .exit)) (now (right .exit)) (now (top .exit)) (now (bottom .exit))) ≡ newOf minx maxx miny maxy zoom ⌝ }
+    ensures { λ r. ⌜ answered r (boxAt (now (bz .exit)) (now (left .exit)) (now (right .exit)) (now (top .exit)) (now (bottom .exit)))
+        ≡ newOf minx maxx miny maxy zoom ⌝ }
 {
     give_box(
         TileZBox::new(minx, maxx, miny, maxy, zoom),
@@ -61,9 +63,17 @@ pub fn from_tiles(
     top: &mut u32,
     bottom: &mut u32,
 ) -> u8
-    ensures { λ r. ⌜ answered r (boxAt (now (bz .exit)) (now (left .exit)) (now (right .exit)) (now (top .exit)) (now (bottom .exit))) ≡ fromTilesOf (now (list .entry)) ⌝ }
+    ensures { λ r. ⌜ answered r (boxAt (now (bz .exit)) (now (left .exit)) (now (right .exit)) (now (top .exit)) (now (bottom .exit)))
+        ≡ fromTilesOf (now (list .entry)) ⌝ }
 {
-    give_box(TileZBox::from_tiles(list), bz, left, right, top, bottom)
+    give_box(
+        tile_zbox_around::from_tiles(list),
+        bz,
+        left,
+        right,
+        top,
+        bottom,
+    )
 }
 
 pub fn contains_tile(
@@ -97,7 +107,8 @@ pub fn flipy(
     top: &mut u32,
     bottom: &mut u32,
 ) -> u8
-    ensures { λ r. ⌜ answered r (boxAt (now (bz .exit)) (now (left .exit)) (now (right .exit)) (now (top .exit)) (now (bottom .exit))) ≡ flipOf (boxAt zoom minx maxx miny maxy) ⌝ }
+    ensures { λ r. ⌜ answered r (boxAt (now (bz .exit)) (now (left .exit)) (now (right .exit)) (now (top .exit)) (now (bottom .exit)))
+        ≡ flipOf (boxAt zoom minx maxx miny maxy) ⌝ }
 {
     give_box(
         zbox(zoom, minx, maxx, miny, maxy).flipy(),
@@ -121,7 +132,8 @@ pub fn zoom_in(
     top: &mut u32,
     bottom: &mut u32,
 ) -> u8
-    ensures { λ r. ⌜ answered r (boxAt (now (bz .exit)) (now (left .exit)) (now (right .exit)) (now (top .exit)) (now (bottom .exit))) ≡ zoomInOf (boxAt zoom minx maxx miny maxy) ⌝ }
+    ensures { λ r. ⌜ answered r (boxAt (now (bz .exit)) (now (left .exit)) (now (right .exit)) (now (top .exit)) (now (bottom .exit)))
+        ≡ zoomInOf (boxAt zoom minx maxx miny maxy) ⌝ }
 {
     give_box(
         zbox(zoom, minx, maxx, miny, maxy).zoom_in(),
@@ -146,7 +158,8 @@ pub fn zoom_depth(
     top: &mut u32,
     bottom: &mut u32,
 ) -> u8
-    ensures { λ r. ⌜ answered r (boxAt (now (bz .exit)) (now (left .exit)) (now (right .exit)) (now (top .exit)) (now (bottom .exit))) ≡ zoomDepthOf (boxAt zoom minx maxx miny maxy) depth ⌝ }
+    ensures { λ r. ⌜ answered r (boxAt (now (bz .exit)) (now (left .exit)) (now (right .exit)) (now (top .exit)) (now (bottom .exit)))
+        ≡ zoomDepthOf (boxAt zoom minx maxx miny maxy) depth ⌝ }
 {
     give_box(
         zbox(zoom, minx, maxx, miny, maxy).zoom_depth(depth),
@@ -211,13 +224,13 @@ pub fn dimensions(
 pub fn boxes_length(boxes: &[u32], length: &mut u64) -> u8
     ensures { λ r. ⌜ answered r (now (length .exit)) ≡ numbersLengthOf (now (boxes .entry)) ⌝ }
 {
-    c_give::u64_number(tile_zbox::boxes_length(boxes), length)
+    c_give::u64_number(tile_zbox_numbers::boxes_length(boxes), length)
 }
 
 pub fn boxes_flipy(boxes: &[u32], out: &mut [u32], count: &mut u64) -> u8
     ensures { λ r. ⌜ given r (now (count .exit)) (now (out .exit)) ≡ boxesFlipOf (now (boxes .entry)) (now (out .entry)) ⌝ }
 {
-    let answer = tile_zbox::boxes_flipy(boxes, out);
+    let answer = tile_zbox_numbers::boxes_flipy(boxes, out);
     c_give::count(answer, count)
 }
 

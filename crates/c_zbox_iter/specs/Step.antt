@@ -3,8 +3,8 @@ use Prim.Native.Nat.{ℕ}
 use Rattle.c_give.specs.Exported.{answered}
 use Rattle.errors.specs.Answer.{Answer}
 use Rattle.tile.specs.declared.Tile.{Tile}
-use Rattle.tile_zbox.specs.Cursor.{Step}
-use Rattle.tile_zbox_iter.specs.Cursor.{BoxesStep}
+use Rattle.tile_zbox_iter.specs.Cursor.{Step}
+use Rattle.tile_zboxes_iter.specs.Cursor.{BoxesStep}
 
 -- of a cursor over a box or several, the tile and how many were given: the boxes are the caller's
 pub record StepGiven : Type 0 where

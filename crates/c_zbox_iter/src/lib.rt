@@ -1,16 +1,16 @@
 // What the exported calls of tile_zbox.rs on cursors do: each asks the library and hands the answer on in numbers.
 use tile::Tile;
-use tile_zbox::NextAnswer;
-use tile_zbox::TileZBoxIterator;
-use tile_zbox_iter::BoxesNextAnswer;
-use tile_zbox_iter::TileZBoxesIterator;
+use tile_zbox_iter::NextAnswer;
+use tile_zbox_iter::TileZBoxIterator;
+use tile_zboxes_iter::BoxesNextAnswer;
+use tile_zboxes_iter::TileZBoxesIterator;
 ghost use mathlib.Core.Path.{_≡_};
 ghost use Rattle.c_give.specs.Exported.{answered};
 ghost use Rattle.c_zbox_iter.specs.Step.{boxesStepNumbers, stepAt, stepNumbers};
 ghost use Rattle.tile.specs.OnMap.{tileAt};
 ghost use Rattle.tile_zbox.specs.Box.{boxAt};
-ghost use Rattle.tile_zbox.specs.Cursor.{cursorAt, nextCase, nextOf};
-ghost use Rattle.tile_zbox_iter.specs.Cursor.{boxesCursorAt, boxesNextCase, boxesNextOf, sizeHintOf};
+ghost use Rattle.tile_zbox_iter.specs.Cursor.{cursorAt, nextCase, nextOf, sizeHintOf};
+ghost use Rattle.tile_zboxes_iter.specs.Cursor.{boxesCursorAt, boxesNextCase, boxesNextOf};
 
 pub fn next(
     zoom: u8,
@@ -25,7 +25,8 @@ pub fn next(
     tz: &mut u8,
     after: &mut u64,
 ) -> u8
-    ensures { λ r. ⌜ answered r (stepAt (now (count .exit)) (tileAt (now (tx .exit)) (now (ty .exit)) (now (tz .exit))) (now (after .exit))) ≡ stepNumbers (nextOf (cursorAt (boxAt zoom minx maxx miny maxy) before)) ⌝ }
+    ensures { λ r. ⌜ answered r (stepAt (now (count .exit)) (tileAt (now (tx .exit)) (now (ty .exit)) (now (tz .exit)))
+        (now (after .exit))) ≡ stepNumbers (nextOf (cursorAt (boxAt zoom minx maxx miny maxy) before)) ⌝ }
 {
     let range = c_zbox::zbox(zoom, minx, maxx, miny, maxy);
     let cursor = TileZBoxIterator {
@@ -51,7 +52,7 @@ pub fn size_hint(
         range,
         given: before,
     };
-    c_give::u64_number(tile_zbox_iter::size_hint(cursor), length)
+    c_give::u64_number(cursor.size_hint(), length)
 }
 
 pub fn boxes_next(
@@ -63,7 +64,8 @@ pub fn boxes_next(
     tz: &mut u8,
     after: &mut u64,
 ) -> u8
-    ensures { λ r. ⌜ answered r (stepAt (now (count .exit)) (tileAt (now (tx .exit)) (now (ty .exit)) (now (tz .exit))) (now (after .exit))) ≡ boxesStepNumbers (boxesNextOf (boxesCursorAt before) (now (boxes .entry))) ⌝ }
+    ensures { λ r. ⌜ answered r (stepAt (now (count .exit)) (tileAt (now (tx .exit)) (now (ty .exit)) (now (tz .exit)))
+        (now (after .exit))) ≡ boxesStepNumbers (boxesNextOf (boxesCursorAt before) (now (boxes .entry))) ⌝ }
 {
     let cursor = TileZBoxesIterator { given: before };
     give_boxes_next(cursor.next(boxes), count, tx, ty, tz, after)
@@ -77,7 +79,8 @@ fn give_next(
     z: &mut u8,
     after: &mut u64,
 ) -> u8
-    ensures { λ r. ⌜ answered r (stepAt (now (count .exit)) (tileAt (now (x .exit)) (now (y .exit)) (now (z .exit))) (now (after .exit))) ≡ stepNumbers (nextCase answer) ⌝ }
+    ensures { λ r. ⌜ answered r (stepAt (now (count .exit)) (tileAt (now (x .exit)) (now (y .exit)) (now (z .exit))) (now (after .exit)))
+        ≡ stepNumbers (nextCase answer) ⌝ }
 {
     let none = Tile { x: 0, y: 0, z: 0 };
     match answer {
@@ -97,7 +100,8 @@ fn give_boxes_next(
     z: &mut u8,
     after: &mut u64,
 ) -> u8
-    ensures { λ r. ⌜ answered r (stepAt (now (count .exit)) (tileAt (now (x .exit)) (now (y .exit)) (now (z .exit))) (now (after .exit))) ≡ boxesStepNumbers (boxesNextCase answer) ⌝ }
+    ensures { λ r. ⌜ answered r (stepAt (now (count .exit)) (tileAt (now (x .exit)) (now (y .exit)) (now (z .exit))) (now (after .exit)))
+        ≡ boxesStepNumbers (boxesNextCase answer) ⌝ }
 {
     let none = Tile { x: 0, y: 0, z: 0 };
     match answer {
@@ -124,7 +128,8 @@ fn give_step(
     z: &mut u8,
     after: &mut u64,
 ) -> u8
-    ensures { λ r. ⌜ answered r (stepAt (now (count .exit)) (tileAt (now (x .exit)) (now (y .exit)) (now (z .exit))) (now (after .exit))) ≡ answered number (stepAt tiles t given) ⌝ }
+    ensures { λ r. ⌜ answered r (stepAt (now (count .exit)) (tileAt (now (x .exit)) (now (y .exit)) (now (z .exit))) (now (after .exit)))
+        ≡ answered number (stepAt tiles t given) ⌝ }
 {
     *count = tiles;
     *x = t.x;

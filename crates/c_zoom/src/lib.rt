@@ -8,7 +8,8 @@ ghost use lib.Bits.{bitAnd};
 ghost use Rattle.c_give.specs.Exported.{answered, given, never};
 ghost use Rattle.c_zoom.specs.Ranges.{givenTwo};
 ghost use Rattle.errors.specs.Answer.{written};
-ghost use Rattle.zoom.specs.Zooms.{andZoom, lastZoom, maxXY, rangeOf, rangeSet, rangesOf, zoomBit, zoomBitRev, zoomSetCase, zoomsOf, zoomsOfRev, zvecSet, zvecSetRev};
+ghost use Rattle.zoom.specs.Zooms.{andZoom, lastZoom, maxXY, rangeOf, rangeSet, rangesOf, zoomBit, zoomBitRev, zoomSetCase, zoomsOf};
+ghost use Rattle.zoom.specs.Zooms.{zoomsOfRev, zvecSet, zvecSetRev};
 
 pub fn zoom_max_xy(zoom: u8, max: &mut u32) -> u8
     ensures { λ r. ⌜ answered r (now (max .exit)) ≡ maxXY zoom ⌝ }

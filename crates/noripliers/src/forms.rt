@@ -56,7 +56,8 @@ pub extern "C" fn nori_form_feed(
     kept: &mut u64,
     filled: &mut u64,
 ) -> u8
-    ensures { λ r. ⌜ (r ≡ 0) × (scanAt (now (next .exit)) (now (kept .exit)) (now (filled .exit)) (now (line .exit)) (now (out .exit)) ≡ feedOf (now (chunk .entry)) 0 len (now (line .entry)) (now (out .entry))) ⌝ }
+    ensures { λ r. ⌜ (r ≡ 0) × (scanAt (now (next .exit)) (now (kept .exit)) (now (filled .exit)) (now (line .exit)) (now (out .exit))
+        ≡ feedOf (now (chunk .entry)) 0 len (now (line .entry)) (now (out .entry))) ⌝ }
 {
     c_forms::feed(chunk, line, len, out, next, kept, filled)
 }

@@ -15,7 +15,8 @@ pub extern "C" fn nori_merge(
     count: &mut u64,
     changed: &mut u8,
 ) -> u8
-    ensures { λ r. ⌜ givenMerge r (now (count .exit)) (now (changed .exit)) (now (out .exit)) ≡ inNumbers (mergeOf (now (list .entry)) minzoom (now (out .entry))) ⌝ }
+    ensures { λ r. ⌜ givenMerge r (now (count .exit)) (now (changed .exit)) (now (out .exit))
+        ≡ inNumbers (mergeOf (now (list .entry)) minzoom (now (out .entry))) ⌝ }
 {
     c_merge::merge(list, minzoom, out, count, changed)
 }

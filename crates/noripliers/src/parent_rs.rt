@@ -40,7 +40,8 @@ pub extern "C" fn nori_parents_next(
     ry: &mut u32,
     rz: &mut u8,
 ) -> u8
-    ensures { λ r. ⌜ answered r (nextAt (heldAt (now (count .exit)) (now (tx .exit)) (now (ty .exit)) (now (tz .exit))) (heldAt (now (rest .exit)) (now (rx .exit)) (now (ry .exit)) (now (rz .exit)))) ≡ nextNumbers (nextOf (holding held x y z)) ⌝ }
+    ensures { λ r. ⌜ answered r (nextAt (heldAt (now (count .exit)) (now (tx .exit)) (now (ty .exit)) (now (tz .exit)))
+        (heldAt (now (rest .exit)) (now (rx .exit)) (now (ry .exit)) (now (rz .exit)))) ≡ nextNumbers (nextOf (holding held x y z)) ⌝ }
 {
     c_parent::next(held, x, y, z, count, tx, ty, tz, rest, rx, ry, rz)
 }

@@ -72,7 +72,8 @@ pub extern "C" fn nori_quadkey_flipy(key: &[u8], out: &mut [u8], count: &mut u64
 // Refused: 3, 4, 5.
 #[no_mangle]
 pub extern "C" fn nori_ancestor_key(key: &[u8], n: usize, length: &mut u64) -> u8
-    ensures { λ r. ⌜ answered r (now (length .exit)) ≡ partLength (ancestorRefusal (now (key .entry)) n) (leadingPart (key .entry) (ancestorRefusal (now (key .entry)) n) n) ⌝ }
+    ensures { λ r. ⌜ answered r (now (length .exit))
+        ≡ partLength (ancestorRefusal (now (key .entry)) n) (leadingPart (key .entry) (ancestorRefusal (now (key .entry)) n) n) ⌝ }
 {
     c_quadkey::ancestor_key(key, n, length)
 }
@@ -81,7 +82,9 @@ pub extern "C" fn nori_ancestor_key(key: &[u8], n: usize, length: &mut u64) -> u
 // Refused: 4, 5.
 #[no_mangle]
 pub extern "C" fn nori_shared_key(a: &[u8], b: &[u8], length: &mut u64) -> u8
-    ensures { λ r. ⌜ answered r (now (length .exit)) ≡ partLength (sharedRefusal (now (a .entry)) (now (b .entry))) (leadingPart (a .entry) (sharedRefusal (now (a .entry)) (now (b .entry))) (sharedLength (now (a .entry)) (now (b .entry)))) ⌝ }
+    ensures { λ r. ⌜ answered r (now (length .exit))
+        ≡ partLength (sharedRefusal (now (a .entry)) (now (b .entry)))
+        (leadingPart (a .entry) (sharedRefusal (now (a .entry)) (now (b .entry))) (sharedLength (now (a .entry)) (now (b .entry)))) ⌝ }
 {
     c_quadkey::shared_key(a, b, length)
 }

@@ -3,11 +3,12 @@ ghost use mathlib.Core.Path.{_≡_};
 ghost use Rattle.c_give.specs.Exported.{answered, asByte, given};
 ghost use Rattle.c_zbox_iter.specs.Step.{boxesStepNumbers, stepAt, stepNumbers};
 ghost use Rattle.tile.specs.OnMap.{tileAt};
-ghost use Rattle.tile_zbox.specs.Around.{fromTilesOf};
-ghost use Rattle.tile_zbox.specs.Box.{boxAt, boxRefusal, containsOf, dimensionsOf, dxOf, dxdyOf, dyOf, extentAt, flipOf, fromTileOf, lengthOf, newOf, zoomDepthOf, zoomInOf};
-ghost use Rattle.tile_zbox.specs.Boxes.{boxesFlipOf, numbersLengthOf};
-ghost use Rattle.tile_zbox.specs.Cursor.{cursorAt, nextOf};
-ghost use Rattle.tile_zbox_iter.specs.Cursor.{boxesCursorAt, boxesNextOf, sizeHintOf};
+ghost use Rattle.tile_zbox_around.specs.Around.{fromTilesOf};
+ghost use Rattle.tile_zbox.specs.Box.{boxAt, boxRefusal, containsOf, dimensionsOf, dxOf, dxdyOf, dyOf, extentAt, flipOf, fromTileOf};
+ghost use Rattle.tile_zbox.specs.Box.{lengthOf, newOf, zoomDepthOf, zoomInOf};
+ghost use Rattle.tile_zbox_numbers.specs.Boxes.{boxesFlipOf, numbersLengthOf};
+ghost use Rattle.tile_zbox_iter.specs.Cursor.{cursorAt, nextOf, sizeHintOf};
+ghost use Rattle.tile_zboxes_iter.specs.Cursor.{boxesCursorAt, boxesNextOf};
 
 // The box itself, where it is one of the map: no min above its max, and no max off the map.
 // Refused: 1, 10.
@@ -24,7 +25,8 @@ pub extern "C" fn nori_zbox_new(
     top: &mut u32,
     bottom: &mut u32,
 ) -> u8
-    ensures { λ r. ⌜ answered r (boxAt (now (bz .exit)) (now (left .exit)) (now (right .exit)) (now (top .exit)) (now (bottom .exit))) ≡ newOf minx maxx miny maxy zoom ⌝ }
+    ensures { λ r. ⌜ answered r (boxAt (now (bz .exit)) (now (left .exit)) (now (right .exit)) (now (top .exit)) (now (bottom .exit)))
+        ≡ newOf minx maxx miny maxy zoom ⌝ }
 {
     c_zbox::new(minx, maxx, miny, maxy, zoom, bz, left, right, top, bottom)
 }
@@ -67,7 +69,8 @@ pub extern "C" fn nori_zbox_from_tiles(
     top: &mut u32,
     bottom: &mut u32,
 ) -> u8
-    ensures { λ r. ⌜ answered r (boxAt (now (bz .exit)) (now (left .exit)) (now (right .exit)) (now (top .exit)) (now (bottom .exit))) ≡ fromTilesOf (now (list .entry)) ⌝ }
+    ensures { λ r. ⌜ answered r (boxAt (now (bz .exit)) (now (left .exit)) (now (right .exit)) (now (top .exit)) (now (bottom .exit)))
+        ≡ fromTilesOf (now (list .entry)) ⌝ }
 {
     c_zbox::from_tiles(list, bz, left, right, top, bottom)
 }
@@ -106,7 +109,8 @@ pub extern "C" fn nori_zbox_flipy(
     top: &mut u32,
     bottom: &mut u32,
 ) -> u8
-    ensures { λ r. ⌜ answered r (boxAt (now (bz .exit)) (now (left .exit)) (now (right .exit)) (now (top .exit)) (now (bottom .exit))) ≡ flipOf (boxAt zoom minx maxx miny maxy) ⌝ }
+    ensures { λ r. ⌜ answered r (boxAt (now (bz .exit)) (now (left .exit)) (now (right .exit)) (now (top .exit)) (now (bottom .exit)))
+        ≡ flipOf (boxAt zoom minx maxx miny maxy) ⌝ }
 {
     c_zbox::flipy(zoom, minx, maxx, miny, maxy, bz, left, right, top, bottom)
 }
@@ -126,7 +130,8 @@ pub extern "C" fn nori_zbox_zoom_in(
     top: &mut u32,
     bottom: &mut u32,
 ) -> u8
-    ensures { λ r. ⌜ answered r (boxAt (now (bz .exit)) (now (left .exit)) (now (right .exit)) (now (top .exit)) (now (bottom .exit))) ≡ zoomInOf (boxAt zoom minx maxx miny maxy) ⌝ }
+    ensures { λ r. ⌜ answered r (boxAt (now (bz .exit)) (now (left .exit)) (now (right .exit)) (now (top .exit)) (now (bottom .exit)))
+        ≡ zoomInOf (boxAt zoom minx maxx miny maxy) ⌝ }
 {
     c_zbox::zoom_in(zoom, minx, maxx, miny, maxy, bz, left, right, top, bottom)
 }
@@ -147,7 +152,8 @@ pub extern "C" fn nori_zbox_zoom_depth(
     top: &mut u32,
     bottom: &mut u32,
 ) -> u8
-    ensures { λ r. ⌜ answered r (boxAt (now (bz .exit)) (now (left .exit)) (now (right .exit)) (now (top .exit)) (now (bottom .exit))) ≡ zoomDepthOf (boxAt zoom minx maxx miny maxy) depth ⌝ }
+    ensures { λ r. ⌜ answered r (boxAt (now (bz .exit)) (now (left .exit)) (now (right .exit)) (now (top .exit)) (now (bottom .exit)))
+        ≡ zoomDepthOf (boxAt zoom minx maxx miny maxy) depth ⌝ }
 {
     c_zbox::zoom_depth(
         zoom,
@@ -311,7 +317,8 @@ pub extern "C" fn nori_zbox_next(
     tz: &mut u8,
     after: &mut u64,
 ) -> u8
-    ensures { λ r. ⌜ answered r (stepAt (now (count .exit)) (tileAt (now (tx .exit)) (now (ty .exit)) (now (tz .exit))) (now (after .exit))) ≡ stepNumbers (nextOf (cursorAt (boxAt zoom minx maxx miny maxy) before)) ⌝ }
+    ensures { λ r. ⌜ answered r (stepAt (now (count .exit)) (tileAt (now (tx .exit)) (now (ty .exit)) (now (tz .exit)))
+        (now (after .exit))) ≡ stepNumbers (nextOf (cursorAt (boxAt zoom minx maxx miny maxy) before)) ⌝ }
 {
     c_zbox_iter::next(
         zoom,
@@ -379,7 +386,8 @@ pub extern "C" fn nori_zboxes_next(
     tz: &mut u8,
     after: &mut u64,
 ) -> u8
-    ensures { λ r. ⌜ answered r (stepAt (now (count .exit)) (tileAt (now (tx .exit)) (now (ty .exit)) (now (tz .exit))) (now (after .exit))) ≡ boxesStepNumbers (boxesNextOf (boxesCursorAt before) (now (boxes .entry))) ⌝ }
+    ensures { λ r. ⌜ answered r (stepAt (now (count .exit)) (tileAt (now (tx .exit)) (now (ty .exit)) (now (tz .exit)))
+        (now (after .exit))) ≡ boxesStepNumbers (boxesNextOf (boxesCursorAt before) (now (boxes .entry))) ⌝ }
 {
     c_zbox_iter::boxes_next(boxes, before, count, tx, ty, tz, after)
 }
