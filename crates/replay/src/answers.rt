@@ -1,4 +1,7 @@
 // Whether a call answered what the list says: the refusal's number, 0 for none, then the values, which are zeros where it is refused.
+use crate::lists;
+use crate::parse;
+use crate::parts;
 use errors::BoolAnswer;
 use errors::Check;
 use errors::Count;
@@ -17,7 +20,7 @@ pub fn accepted(values: &[u64], want: &[u64]) -> bool {
     }
     let mut i = 0;
     while i < values.len() {
-        if values[i] != value(want, i) {
+        if values[i] != entry(want, i + 1) {
             return false;
         }
         i += 1;
@@ -84,39 +87,30 @@ pub fn same_u64(answer: U64Answer, want: &[u64]) -> bool {
     }
 }
 
-// Whether a call that wrote a list into lent memory, all `BLANK` before, gave the count and the entries that the list says,
-// and left the places past them as they were.
+// Whether a call that wrote a list of bytes into lent memory, all `BLANK` before, gave the count and the entries that the list says, and
+// left the places past them as they were.
 pub fn same_bytes(answer: Count, out: &[u8], want: &[u64]) -> bool {
-    if !same_count(answer, out.len(), want) {
+    match answer {
+        Count::Counted(n) => {
+            lists::accepted(&[n as u64], n, want) && listed(out, parts::numbers(want, 2, n))
+        }
+        Count::Refused(why) => refused(why, 1, want) && listed(out, &[]),
+    }
+}
+
+// Whether lent memory, all `BLANK` before, has room for these entries, begins with them, and is as it was past them.
+pub fn listed(out: &[u8], want: &[u64]) -> bool {
+    if want.len() > out.len() {
         return false;
     }
     let mut i = 0;
     while i < out.len() {
-        if wide(out[i]) != value(want, i + 1) {
+        if parse::wide(out[i]) != entry(want, i) {
             return false;
         }
         i += 1;
     }
     true
-}
-
-// Whether the count is right, and as many entries follow it, for which the lent memory has room.
-fn same_count(answer: Count, room: usize, want: &[u64]) -> bool {
-    match answer {
-        Count::Counted(n) => {
-            if n > room {
-                return false;
-            }
-            if want.len() < 2 {
-                return false;
-            }
-            if want.len() - 2 != n {
-                return false;
-            }
-            want[0] == 0 && want[1] == n as u64
-        }
-        Count::Refused(why) => refused(why, 1, want),
-    }
 }
 
 // Whether the list says this number, with so many values.
@@ -130,17 +124,10 @@ fn says(want: &[u64], number: u8, values: usize) -> bool {
     want[0] == number as u64
 }
 
-// What the list says of value i, or `BLANK` past its end.
-fn value(want: &[u64], i: usize) -> u64 {
-    if want.len() == 0 {
-        return BLANK as u64;
-    }
-    if i < want.len() - 1 {
-        return want[i + 1];
+// What the list says at a place, or `BLANK` past its end.
+fn entry(want: &[u64], i: usize) -> u64 {
+    if i < want.len() {
+        return want[i];
     }
     BLANK as u64
-}
-
-fn wide(b: u8) -> u64 {
-    b as u64
 }

@@ -1,107 +1,109 @@
-// The arguments of a call, taken from its numbers. What is missing or does not fit its type is bad.
+// The arguments of a call, taken from its numbers. A caller first tests that they fit their types: what does not is read as 0.
+use crate::entries;
+use crate::parts;
 use tile::OptionU8;
 use tile::Tile;
 
 // How the list writes None.
 const NONE: u64 = 256;
 
-pub enum U32Arg {
-    Given(u32),
-    Bad,
-}
-
-pub enum ByteArg {
-    Given(u8),
-    Bad,
-}
-
-pub enum OptionArg {
-    Given(OptionU8),
-    Bad,
-}
-
-pub enum TileArg {
-    Given(Tile),
-    Bad,
-}
-
-// How many bytes were given.
-pub enum BytesArg {
+// How many entries were given.
+pub enum ListArg {
     Given(usize),
     Bad,
 }
 
-pub fn u32_at(args: &[u64], i: usize) -> U32Arg {
-    if i >= args.len() {
-        return U32Arg::Bad;
+// Whether there are as many numbers as `kinds` has digits, and each fits its kind: 1 is a byte, 2 a byte or None, 3 a place in the table of
+// doubles, 4 a u32, 8 any number.
+pub fn fit(numbers: &[u64], kinds: u64) -> bool {
+    let mut left = kinds;
+    let mut i = numbers.len();
+    while i > 0 {
+        i -= 1;
+        if left == 0 || numbers[i] > most(left % 10) {
+            return false;
+        }
+        left = left / 10;
     }
-    let n = args[i];
-    if n > 4294967295 {
-        return U32Arg::Bad;
-    }
-    U32Arg::Given(n as u32)
+    left == 0
 }
 
-pub fn byte_at(args: &[u64], i: usize) -> ByteArg {
-    if i >= args.len() {
-        return ByteArg::Bad;
+fn most(kind: u64) -> u64 {
+    match kind {
+        1 => 255,
+        2 => NONE,
+        3 => 11,
+        4 => 4294967295,
+        _ => u64::MAX,
     }
-    let n = args[i];
-    if n > 255 {
-        return ByteArg::Bad;
-    }
-    ByteArg::Given(n as u8)
 }
 
-pub fn option_at(args: &[u64], i: usize) -> OptionArg {
-    if i >= args.len() {
-        return OptionArg::Bad;
+pub fn number(args: &[u64], i: usize) -> u64 {
+    if i < args.len() {
+        return args[i];
     }
-    if args[i] == NONE {
-        return OptionArg::Given(OptionU8::None);
+    0
+}
+
+pub fn word(args: &[u64], i: usize) -> u32 {
+    let n = number(args, i);
+    if n > 4294967295 { 0 } else { n as u32 }
+}
+
+pub fn byte(args: &[u64], i: usize) -> u8 {
+    let n = number(args, i);
+    if n > 255 { 0 } else { n as u8 }
+}
+
+pub fn option(args: &[u64], i: usize) -> OptionU8 {
+    if number(args, i) == NONE {
+        return OptionU8::None;
     }
-    match byte_at(args, i) {
-        ByteArg::Given(n) => OptionArg::Given(OptionU8::Some(n)),
-        ByteArg::Bad => OptionArg::Bad,
-    }
+    OptionU8::Some(byte(args, i))
 }
 
 // The tile x y z at a place, on the map or off it.
-pub fn tile_at(args: &[u64], i: usize) -> TileArg {
-    if i >= 65536 {
-        return TileArg::Bad;
+pub fn tile(args: &[u64], i: usize) -> Tile {
+    let xyz = parts::numbers(args, i, 3);
+    Tile {
+        x: word(xyz, 0),
+        y: word(xyz, 1),
+        z: byte(xyz, 2),
     }
-    let U32Arg::Given(x) = u32_at(args, i) else {
-        return TileArg::Bad;
-    };
-    let U32Arg::Given(y) = u32_at(args, i + 1) else {
-        return TileArg::Bad;
-    };
-    let ByteArg::Given(z) = byte_at(args, i + 2) else {
-        return TileArg::Bad;
-    };
-    TileArg::Given(Tile { x, y, z })
 }
 
 // The arguments are one list of bytes, its count first. The bytes go into the front of `out`.
-pub fn bytes(args: &[u64], out: &mut [u8]) -> BytesArg {
+pub fn bytes(args: &[u64], out: &mut [u8]) -> ListArg {
     if args.len() == 0 {
-        return BytesArg::Bad;
+        return ListArg::Bad;
     }
     let n = args.len() - 1;
     if args[0] != n as u64 {
-        return BytesArg::Bad;
+        return ListArg::Bad;
     }
     if n > out.len() {
-        return BytesArg::Bad;
+        return ListArg::Bad;
     }
     let mut i = 0;
     while i < n {
-        let ByteArg::Given(b) = byte_at(args, i + 1) else {
-            return BytesArg::Bad;
-        };
-        out[i] = b;
+        if args[i + 1] > 255 {
+            return ListArg::Bad;
+        }
+        out[i] = byte(args, i + 1);
         i += 1;
     }
-    BytesArg::Given(n)
+    ListArg::Given(n)
+}
+
+// The arguments are one list of tiles, its count first. Their entries go into the front of `out`.
+pub fn tiles(args: &[u64], out: &mut [u64]) -> ListArg {
+    if args.len() == 0 {
+        return ListArg::Bad;
+    }
+    let n = args.len() - 1;
+    if args[0] != n as u64 || n > out.len() {
+        return ListArg::Bad;
+    }
+    entries::fill(parts::numbers(args, 1, n), out);
+    ListArg::Given(n)
 }

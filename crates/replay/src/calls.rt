@@ -1,5 +1,5 @@
 // The calls of the list on standard input, one by one. A line that is no call and no heading is printed, and behind the last one how many
-// calls there were: a list that has lost its end is noticed by that.
+// calls there were: a list that has lost its end is noticed by that. So it is for each module, where the list names them.
 use crate::lines;
 use crate::lines::Line;
 use crate::parse;
@@ -31,6 +31,24 @@ pub fn next(text: &mut [u8; 65536], numbers: &mut [u64; 4096], last: Call, same:
         print(text, line);
     }
     seek(text, numbers, line, last.count)
+}
+
+// Whether the line has no numbers. It is no call, but begins what follows: a build, or the calls of the module that it names.
+pub fn begins(line: Call) -> bool {
+    let shape = line.shape;
+    shape.args == 0 && shape.answers == 0
+}
+
+// Prints how many calls there were before a module, if any, and its name. From there on they are counted anew.
+pub fn begin_module(name: &[u8], line: Call) -> Call {
+    let mut begun = line;
+    if begun.count > 0 {
+        print_count(begun.count);
+    }
+    io::write_all(1, name);
+    io::write_all(1, b"\n");
+    begun.count = 0;
+    begun
 }
 
 pub fn name(text: &[u8; 65536], call: Call) -> &[u8] {
@@ -76,7 +94,7 @@ fn seek(text: &mut [u8; 65536], numbers: &mut [u64; 4096], last: Line, count: u6
     end(line, count)
 }
 
-// A line without an answer is no call: it begins a build.
+// A line without an answer is no call.
 fn with_call(count: u64, shape: Shape) -> u64 {
     if shape.answers == 0 {
         return count;
@@ -85,8 +103,7 @@ fn with_call(count: u64, shape: Shape) -> u64 {
 }
 
 fn end(line: Line, count: u64) -> Call {
-    io::print_decimal(1, count);
-    io::write_all(1, b" calls\n");
+    print_count(count);
     Call {
         found: false,
         count,
@@ -97,6 +114,11 @@ fn end(line: Line, count: u64) -> Call {
             answers: 0,
         },
     }
+}
+
+fn print_count(count: u64) {
+    io::print_decimal(1, count);
+    io::write_all(1, b" calls\n");
 }
 
 // A line without its newline is cut off, and no call.

@@ -6,5 +6,6 @@ pub mod calls;
 pub mod entries;
 pub mod lines;
 pub mod lists;
+pub mod names;
 pub mod parse;
 pub mod parts;

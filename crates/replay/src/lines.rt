@@ -1,4 +1,5 @@
 // The lines of standard input, found one by one in a buffer of the caller's that has room for 65,536 bytes of it at a time.
+use crate::parts;
 ghost use mathlib.Core.Path.{_≡_};
 ghost use Prim.Native.Nat.{_+_, _≤_};
 ghost use lib.ListN.{length};
@@ -31,7 +32,7 @@ pub fn next_line(text: &mut [u8; 65536], last: Line) -> Line {
     if at > filled {
         return before_first();
     }
-    let end = line_end(text, at, filled);
+    let end = parts::find(text, b'\n', at, filled);
     if end < filled {
         return Line {
             start: at,
@@ -51,7 +52,7 @@ fn read_on(text: &mut [u8], at: usize, filled: usize) -> Line
     move_front(text, at, held);
     let room = text.len() - held;
     let got = least(io::read_full(0, &mut text[held..]), room);
-    let end = line_end(text, held, held + got);
+    let end = parts::find(text, b'\n', held, held + got);
     Line {
         start: 0,
         end,
@@ -69,21 +70,6 @@ fn move_front(text: &mut [u8], at: usize, n: usize)
         text[i] = text[at + i];
         i += 1;
     }
-}
-
-// The place of the first newline from `at` on, or `filled`.
-fn line_end(text: &[u8], at: usize, filled: usize) -> usize
-    requires { ⌜ (at ≤ filled) × (filled ≤ length (now text)) ⌝ }
-    ensures { λ r. ⌜ r ≤ filled ⌝ }
-{
-    let mut i = at;
-    while i < filled {
-        if text[i] == b'\n' {
-            return i;
-        }
-        i += 1;
-    }
-    i
 }
 
 fn least(a: usize, b: usize) -> usize

@@ -1,4 +1,5 @@
 // A line of a list, `NAME ARG ARG .. = NUMBER VALUE VALUE ..`, as the length of its name and its numbers.
+use crate::parts;
 ghost use Prim.Native.Nat.{_≤_, _<_};
 ghost use lib.ListN.{length};
 ghost use Rattle.replay.specs.Within.{EndsPast, Fits};
@@ -30,7 +31,8 @@ pub fn parse(line: &[u8], numbers: &mut [u64]) -> Parsed
     if is_heading(line) {
         return Parsed::Heading;
     }
-    numbers_after(line, name_length(line), numbers)
+    let name = parts::find(line, b' ', 0, line.len());
+    numbers_after(line, name, numbers)
 }
 
 // The call whose name has so many bytes.
@@ -82,20 +84,6 @@ fn is_heading(line: &[u8]) -> bool {
     line[0] == b'#'
 }
 
-// The bytes before the first space.
-fn name_length(line: &[u8]) -> usize
-    ensures { λ r. ⌜ r ≤ length (now (line .entry)) ⌝ }
-{
-    let mut i = 0;
-    while i < line.len() {
-        if line[i] == b' ' {
-            return i;
-        }
-        i += 1;
-    }
-    i
-}
-
 // What follows the space at `at`.
 fn token_at(line: &[u8], at: usize) -> Token
     requires { ⌜ at < length (now line) ⌝ }
@@ -143,6 +131,6 @@ fn number(line: &[u8], at: usize) -> Token
     Token::Number(value, i)
 }
 
-fn wide(b: u8) -> u64 {
+pub fn wide(b: u8) -> u64 {
     b as u64
 }

@@ -2,6 +2,8 @@
 // that it left, is not what the list says.
 use errors::Count;
 use replay::answers;
+use replay::args;
+use replay::args::ListArg;
 use replay::calls;
 use replay::calls::Call;
 use replay::entries;
@@ -122,18 +124,10 @@ fn play(name: &[u8], given: &[u64], want: &[u64], build: Build, kept: &mut [u64;
 }
 
 fn is_settled(given: &[u64], want: &[u64]) -> bool {
-    if given.len() == 0 {
-        return false;
-    }
-    let n = given.len() - 1;
-    if given[0] != n as u64 {
-        return false;
-    }
-    if n > ROOM {
-        return false;
-    }
     let mut room = [0u64; ROOM];
-    entries::fill(parts::numbers(given, 1, n), &mut room);
+    let ListArg::Given(n) = args::tiles(given, &mut room) else {
+        return false;
+    };
     answers::same_told(settled::is_settled(parts::numbers(&room, 0, n)), want)
 }
 
@@ -184,7 +178,7 @@ fn play_call(
     let mut own = [0u64; ROOM];
     entries::fill(given, &mut own);
     let mut room = [BLANK; ROOM];
-    let out = &mut room[..places as usize];
+    let out = parts::front(&mut room, places as usize);
     let answer = answered(work, a, b, &own, kept, out);
     let same = lists::same_list(answer, cleared(work, a.count + b.count), out, want);
     keep(same, answer, out, build, kept)

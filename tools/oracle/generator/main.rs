@@ -1,4 +1,5 @@
-//! Writes one list of calls and answers for each module of the port, and what its replay prints, into the folder that is named.
+//! Writes the lists of calls and answers, one of all modules of the port and one of builds, and what their replays print, into the
+//! folder that is named.
 mod bbox;
 mod beyond;
 mod builds;
@@ -20,7 +21,7 @@ mod zoom;
 
 use record::List;
 
-const LISTS: [(&str, fn(&mut List)); 10] = [
+const MODULES: [(&str, fn(&mut List)); 9] = [
     ("sibling_relationship", sibling_relationship::write),
     ("tile", tile::write),
     ("quadkey", quadkey::write),
@@ -30,21 +31,23 @@ const LISTS: [(&str, fn(&mut List)); 10] = [
     ("zoom", zoom::write),
     ("bbox", bbox::write),
     ("merge", merge::write),
-    ("builds", builds::write),
 ];
 
 fn main() {
     let folder = std::env::args().nth(1).expect("usage: generator OUT");
     let mut surprises = Vec::new();
-    for (name, fill) in LISTS {
-        let mut list = List::default();
-        fill(&mut list);
-        let text = list.text();
-        println!("{name}: {} bytes, {} calls", text.len(), list.calls());
-        list.print_counts();
-        write(&format!("{folder}/replay_{name}"), &text, list.calls());
+    let (mut calls, mut counts) = (String::new(), String::new());
+    for (name, fill) in MODULES {
+        let list = filled(name, fill);
+        // A name alone begins the calls of a module.
+        calls += &format!("{name} =\n{}", list.text());
+        counts += &format!("{name}\n{} calls\n", list.calls());
         surprises.extend(list.surprises);
     }
+    write(&format!("{folder}/replay_rust"), &calls, &counts);
+    let builds = filled("builds", builds::write);
+    write(&format!("{folder}/replay_builds"), &builds.text(), &format!("{} calls\n", builds.calls()));
+    surprises.extend(builds.surprises);
     beyond::print();
     for surprise in &surprises {
         eprintln!("{surprise}");
@@ -54,9 +57,17 @@ fn main() {
     }
 }
 
+fn filled(name: &str, fill: fn(&mut List)) -> List {
+    let mut list = List::default();
+    fill(&mut list);
+    println!("{name}: {} bytes, {} calls", list.text().len(), list.calls());
+    list.print_counts();
+    list
+}
+
 // What a replay is given, and what it prints where nothing differs.
-fn write(folder: &str, list: &str, calls: usize) {
+fn write(folder: &str, list: &str, printed: &str) {
     std::fs::create_dir_all(folder).expect("the folder can be made");
     std::fs::write(format!("{folder}/stdin"), list).expect("the list can be written");
-    std::fs::write(format!("{folder}/stdout"), format!("{calls} calls\n")).expect("the count can be written");
+    std::fs::write(format!("{folder}/stdout"), printed).expect("what is printed can be written");
 }

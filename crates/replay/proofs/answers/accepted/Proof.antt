@@ -26,8 +26,11 @@ mul-if2 c = search needs
 shared-slice-read-if2 : tie.Need-shared-slice-read-if2 Inv-loop μ-loop
 shared-slice-read-if2 c = search needs
 
-value-requires : tie.Need-value-requires Inv-loop μ-loop
-value-requires c κs = search needs
+add-entry : tie.Need-add-entry Inv-loop μ-loop
+add-entry c = search needs
+
+entry-requires : tie.Need-entry-requires Inv-loop μ-loop
+entry-requires c κs = search needs
 
 returns-2 : tie.Need-returns-2 Inv-loop μ-loop
 returns-2 c = search needs
@@ -55,7 +58,8 @@ accepted-spec =
     loop-holds
     mul-if2
     shared-slice-read-if2
-    value-requires
+    add-entry
+    entry-requires
     returns-2
     add-i
     loop-less
