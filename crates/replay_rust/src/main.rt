@@ -1,17 +1,17 @@
-// Replays the Rust's answers, with a module here for each of its files. Prints the name of each module and how many calls of it the list
-// has, and each line whose answer, or the memory that the call left, is not what the list says.
-mod bbox_rs;
+// Replays the Rust's answers, with a module for each of its files, here or in `replay_boxes`. Prints the name of each module and how many
+// calls of it the list has, and each line whose answer, or the memory that the call left, is not what the list says.
 mod fns_rs;
 mod merge_rs;
 mod parent_rs;
 mod quadkey_rs;
 mod sibling_relationship_rs;
 mod tile_rs;
-mod tile_zbox_rs;
-mod zoom_rs;
 
 use replay::calls;
 use replay::names;
+use replay_boxes::bbox_rs;
+use replay_boxes::tile_zbox_rs;
+use replay_boxes::zoom_rs;
 
 fn main() {
     let mut text = io::large_buffer();

@@ -1,10 +1,10 @@
--- `replay_rust::tile_zbox_rs::boxes` is safe and ends: there is room for every number.
+-- `replay_boxes::tile_zbox_rs::boxes` is safe and ends: there is room for every number.
 use mathlib.Core.Path.{_≡_}
 use Prim.Native.Nat.{_-_}
 use lib.ListN.{length}
 use borrow.Author.Needs.{needs}
-use Rattle.replay_rust.proofs.tile_zbox_rs.boxes.Statement.{statement}
-use Rattle.replay_rust.proofs.tile_zbox_rs.boxes.Tie as tie
+use Rattle.replay_boxes.proofs.tile_zbox_rs.boxes.Statement.{statement}
+use Rattle.replay_boxes.proofs.tile_zbox_rs.boxes.Tie as tie
 
 abbrev Inv-loop : tie.InvT-loop
 Inv-loop numbers out₀ n i₀ out i = length out ≡ length out₀

@@ -1,10 +1,10 @@
--- `replay_rust::tile_zbox_rs::records_length` is safe and ends: there is room for every box.
+-- `replay_boxes::tile_zbox_rs::records_length` is safe and ends: there is room for every box.
 use mathlib.Core.Path.{_≡_}
 use Prim.Native.Nat.{_-_}
 use lib.ListN.{length}
 use borrow.Author.Needs.{needs}
-use Rattle.replay_rust.proofs.tile_zbox_rs.records_length.Statement.{statement}
-use Rattle.replay_rust.proofs.tile_zbox_rs.records_length.Tie as tie
+use Rattle.replay_boxes.proofs.tile_zbox_rs.records_length.Statement.{statement}
+use Rattle.replay_boxes.proofs.tile_zbox_rs.records_length.Tie as tie
 
 abbrev Inv-loop : tie.InvT-loop
 Inv-loop boxes want n room₀ i₀ room i = length room ≡ 40

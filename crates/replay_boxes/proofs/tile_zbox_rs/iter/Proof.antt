@@ -1,10 +1,10 @@
--- `replay_rust::tile_zbox_rs::iter` is safe and ends: each turn takes a place of the list.
+-- `replay_boxes::tile_zbox_rs::iter` is safe and ends: each turn takes a place of the list.
 use mathlib.Core.Path.{_≡_}
 use Prim.Native.Nat.{_-_}
 use lib.ListN.{length}
 use borrow.Author.Needs.{needs}
-use Rattle.replay_rust.proofs.tile_zbox_rs.iter.Statement.{statement}
-use Rattle.replay_rust.proofs.tile_zbox_rs.iter.Tie as tie
+use Rattle.replay_boxes.proofs.tile_zbox_rs.iter.Statement.{statement}
+use Rattle.replay_boxes.proofs.tile_zbox_rs.iter.Tie as tie
 
 abbrev Inv-loop : tie.InvT-loop
 Inv-loop want out₀ cursor₀ n₀ out cursor n = length out ≡ 64

@@ -1,4 +1,4 @@
--- `replay_rust::tile_zbox_rs::lend` meets its contract: a walk of its MIR, by hand, since the borrow checker covers no function that makes a slice of structs.
+-- `replay_boxes::tile_zbox_rs::lend` meets its contract: a walk of its MIR, by hand, since the borrow checker covers no function that makes a slice of structs.
 -- The array is copied into memory, a lifetime is made, the first n boxes are lent for it, and `tile_zboxes::boxes_length` is called. Then the lifetime is ended, and the array is whole again.
 use mathlib.Core.Path.{_≡_, refl, sym}
 use mathlib.Core.List.{List, [], _∷_, _++_}
@@ -61,10 +61,10 @@ use Rattle.tile_zboxes.proofs.boxes_length as boxes
 use Rattle.tile_zboxes.proofs.boxes_length.Symbol as boxes-def
 use Rattle.tile_zboxes.proofs.boxes_length.Symbol.{name as #boxes-length}
 use Rattle.tile_zboxes.proofs.boxes_length.Met as boxes-thm
-use Rattle.replay_rust.proofs.tile_zbox_rs.lend.Key.{name as #lend}
-use Rattle.replay_rust.proofs.tile_zbox_rs.lend as this
-use Rattle.replay_rust.proofs.tile_zbox_rs.lend.Statement as stated
-use Rattle.replay_rust.proofs.tile_zbox_rs.lend.Code as code
+use Rattle.replay_boxes.proofs.tile_zbox_rs.lend.Key.{name as #lend}
+use Rattle.replay_boxes.proofs.tile_zbox_rs.lend as this
+use Rattle.replay_boxes.proofs.tile_zbox_rs.lend.Statement as stated
+use Rattle.replay_boxes.proofs.tile_zbox_rs.lend.Code as code
 
 -- ---- the types of the locals, and the machine value of an array
 abbrev places : ℕ
