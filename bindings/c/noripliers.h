@@ -44,6 +44,9 @@ extern "C" {
 #define NORI_NODISCARD
 #endif
 
+/* The version: 10,000 for each major number, 100 for each minor one, 1 for each patch. */
+#define NORI_VERSION 200
+
 /* The deepest zoom. */
 #define NORI_MAX_ZOOM 29
 
@@ -98,6 +101,15 @@ enum nori_refusal {
     /* a line that is no form. */
     NORI_NO_FORM = 15
 };
+
+/* ---------------------------------------------------------------------------------------------- */
+
+/* The version of the library. */
+
+/* The version of the archive, which is that of this header where the two belong together: 10,000
+ * for each major number, 100 for each minor one, 1 for each patch.
+ * Never refused. */
+NORI_NODISCARD uint8_t nori_version(uint32_t *version);
 
 /* ---------------------------------------------------------------------------------------------- */
 

@@ -1,5 +1,8 @@
 //! The functions of the archive, as bindings/c/noripliers.h declares them. Written by tools/bindings.
 
+/// The version: 10,000 for each major number, 100 for each minor one, 1 for each patch.
+pub const VERSION: u32 = 200;
+
 /// The deepest zoom.
 pub const MAX_ZOOM: u8 = 29;
 
@@ -22,6 +25,8 @@ pub const FORM_PLACES: usize = 256;
 pub const KEPT: usize = MAX_LINE + 1;
 
 unsafe extern "C" {
+    /// The version of the archive, which is that of this header where the two belong together: 10,000 for each major number, 100 for each minor one, 1 for each patch.
+    pub safe fn nori_version(version: &mut u32) -> u8;
     /// The tile itself, where x, y and z name one of the map.
     pub safe fn nori_try_new(x: u32, y: u32, z: u8, tx: &mut u32, ty: &mut u32, tz: &mut u8) -> u8;
     /// Whether x, y and z name a tile of the map: nothing but the number comes back.
@@ -685,6 +690,7 @@ unsafe extern "C" {
 
 /// The numbers by which each function can be refused.
 pub const REFUSALS: &[(&str, &[u8])] = &[
+    ("nori_version", &[]),
     ("nori_try_new", &[1, 2]),
     ("nori_check", &[1, 2]),
     ("nori_flip", &[1, 2]),

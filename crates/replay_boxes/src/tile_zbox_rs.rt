@@ -12,16 +12,16 @@ use replay::parts;
 use tile::Tile;
 use tile_zbox::BoxAnswer;
 use tile_zbox::ExtentAnswer;
-use tile_zbox::NextAnswer;
 use tile_zbox::TileZBox;
-use tile_zbox::TileZBoxIterator;
-use tile_zbox_iter::BoxesNextAnswer;
-use tile_zbox_iter::TileZBoxesIterator;
+use tile_zbox_iter::NextAnswer;
+use tile_zbox_iter::TileZBoxIterator;
+use tile_zboxes_iter::BoxesNextAnswer;
+use tile_zboxes_iter::TileZBoxesIterator;
 ghost use mathlib.Core.Path.{_≡_};
 ghost use Prim.Native.Nat.{_≤_};
 ghost use lib.ListN.{length, take};
 ghost use Rattle.errors.specs.Cases.{u64Case};
-ghost use Rattle.tile_zbox.specs.Boxes.{boxesLengthOf};
+ghost use Rattle.tile_zbox_numbers.specs.Boxes.{boxesLengthOf};
 
 pub fn replayed(name: &[u8], given: &[u64], want: &[u64]) -> bool {
     match names::place(name, b"from_tile from_tiles boxes_length boxes_next") {
@@ -42,7 +42,10 @@ fn from_tiles(given: &[u64], want: &[u64]) -> bool {
     let ListArg::Given(n) = args::tiles(given, &mut room) else {
         return false;
     };
-    same_box(TileZBox::from_tiles(parts::numbers(&room, 0, n)), want)
+    same_box(
+        tile_zbox_around::from_tiles(parts::numbers(&room, 0, n)),
+        want,
+    )
 }
 
 // The boxes are summed as numbers, and as records.
@@ -51,7 +54,10 @@ fn boxes_length(given: &[u64], want: &[u64]) -> bool {
     let ListArg::Given(n) = boxes(given, &mut room) else {
         return false;
     };
-    answers::same_u64(tile_zbox::boxes_length(parts::words(&room, 0, n)), want)
+    answers::same_u64(
+        tile_zbox_numbers::boxes_length(parts::words(&room, 0, n)),
+        want,
+    )
         && records_length(parts::after(given, 1), want)
 }
 
@@ -180,7 +186,7 @@ fn iter(b: TileZBox, want: &[u64]) -> bool {
 
 fn size_hint(b: TileZBox, given: u64, want: &[u64]) -> bool {
     let cursor = TileZBoxIterator { range: b, given };
-    answers::same_u64(tile_zbox_iter::size_hint(cursor), want)
+    answers::same_u64(cursor.size_hint(), want)
 }
 
 fn contains_tile(b: TileZBox, t: Tile, want: &[u64]) -> bool {

@@ -2,7 +2,6 @@
 use borrow.Author.Needs.{needs}
 use Rattle.c_zoom.proofs.give_set.Statement.{statement}
 use Rattle.c_zoom.proofs.give_set.Tie as tie
-use Rattle.zoom.proofs.ZoomSet.number.Reads as ZoomSet-number-reads
 
 pub give-set-spec : {M : Type 1} → statement M
 give-set-spec =

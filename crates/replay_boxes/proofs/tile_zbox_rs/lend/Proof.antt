@@ -130,7 +130,8 @@ module _ {M : Type 1} (𝓤 : URA M) (H : Heap 𝓤) (A : Atoms 𝓤) (mem′ : 
   abbrev Boxes : Contract 𝓤
   Boxes = tripleOf 𝓤 H A boxes.signature (boxes.spec 𝓤 H A mem′ run)
 
-module _ {M : Type 1} (𝓤 : URA M) (H : Heap 𝓤) (A : Atoms 𝓤) (W : Given 𝓤 H A) (mem′ : Memory → SProp 𝓤) (run : Routine → Fun 𝓤) (𝓣 : Tables 𝓤 H) (known : Triple 𝓤 (𝓣 .C #boxes-length) (Boxes 𝓤 H A mem′ run)) where
+module _ {M : Type 1} (𝓤 : URA M) (H : Heap 𝓤) (A : Atoms 𝓤) (W : Given 𝓤 H A) (mem′ : Memory → SProp 𝓤) (run : Routine → Fun 𝓤) (𝓣 : Tables 𝓤 H)
+    (known : Triple 𝓤 (𝓣 .C #boxes-length) (Boxes 𝓤 H A mem′ run)) where
   module _ (xs : List TileZBox) (n : ℕ) (is : Is Row xs (mach xs ∷ [])) (fits : n < 2 ^ 64) (few : n ≤ length xs) where
     abbrev ys : List TileZBox
     ys = take n xs
@@ -153,7 +154,8 @@ module _ {M : Type 1} (𝓤 : URA M) (H : Heap 𝓤) (A : Atoms 𝓤) (W : Given
     exits : (r : U64Answer) (u : Val) → Is S.the-row r (u ∷ []) → Summed r → ent 𝓤 (emp 𝓤) (Post u)
     exits r u js e =
         qed W [] ∵ suffices ! _ (ends-at 𝓤 H A this.ended stayed (this.clauses 𝓤 H A mem′ run) W bound u r (tt, (tt, tt)) (tt, (tt, tt))) $ says ! e $
-        owned ! S.the-row (Is S.the-row) (EL.makes S.the-type S′.the-plain 𝓤 H A) r (u ∷ []) js $ nothing ! $ owned ! usize (Is usize) (uint-makes 𝓤 H A W w64) n (vint w64 n ∷ []) (refl, fits) $ fjoin ! $
+        owned ! S.the-row (Is S.the-row) (EL.makes S.the-type S′.the-plain 𝓤 H A) r (u ∷ []) js $ nothing ! $ owned ! usize (Is usize)
+        (uint-makes 𝓤 H A W w64) n (vint w64 n ∷ []) (refl, fits) $ fjoin ! $
         owned ! Row (Is Row) (array-makes 𝓤 H A W T.the-row (LL.makes T.the-type T′.the-plain 𝓤 H A) places) xs (mach xs ∷ []) is $ fjoin ! $ nothing ! $ done !
 
     -- ---- the call, of the slice at (b, 0) under the lifetime κ
@@ -186,18 +188,22 @@ module _ {M : Type 1} (𝓤 : URA M) (H : Heap 𝓤) (A : Atoms 𝓤) (W : Given
         -- _3 = _1, _4 = &_3, _5 = { _4, _2 }
         assigns ! (of-opd ! (load ! (from ! (stop !)) (look ! 8 refl))) (from ! (stop !)) (init ! 4 refl typed-array) $
         assigns ! (addr ! (from ! (stop !))) (from ! (stop !)) (init ! 2 refl (tt, tt)) $
-        assigns ! (agg ! (and-then ! (load ! (from ! (stop !)) (look ! 2 refl)) (and-then ! (load ! (from ! (stop !)) (look ! 6 refl)) (no-more !)))) (from ! (stop !)) (init ! 0 refl (tt, (tt, (record { fits = fits }, tt)))) $
+        assigns ! (agg ! (and-then ! (load ! (from ! (stop !)) (look ! 2 refl)) (and-then ! (load ! (from ! (stop !)) (look ! 6 refl)) (no-more !))))
+        (from ! (stop !)) (init ! 0 refl (tt, (tt, (record { fits = fits }, tt)))) $
         rewrite ! 0 (λ (m : ℕ). ‵ (fat fullShare slice l₅ 0 (sliceVal (l₃, 0) m))) (sym long) refl $
         -- the array is in memory: the first n boxes are lent for a lifetime that is made for the call, and the others are kept
-        move ! (4 ∷ []) $ use1 W (‵ (partAt Row fullShare xs l₃ 0)) (goes-in 𝓤 H A W xs (mach xs) l₃ is) $ use1 W (‵ (arr-parts (shares T.the-row) places .part fullShare xs l₃ 0)) (array-apart 𝓤 H A W T.the-row fullShare tt places xs l₃ 0) $ fsplit ! $ drop ! $
+        move ! (4 ∷ []) $ use1 W (‵ (partAt Row fullShare xs l₃ 0)) (goes-in 𝓤 H A W xs (mach xs) l₃ is) $ use1 W
+        (‵ (arr-parts (shares T.the-row) places .part fullShare xs l₃ 0)) (array-apart 𝓤 H A W T.the-row fullShare tt places xs l₃ 0) $ fsplit ! $ drop ! $
         use1 W (‵ (all-of ys l₃) ⊛ ‵ (rest-of n xs l₃)) (cuts 𝓤 H A W n xs l₃) $ split ! $ feqI ! ℕ (length ys) (length ys) refl $ fjoin ! $
         lft-new ! tt (λ α. move ! (1 ∷ []) $
-        use1 W (later (some (λ (γ : GName). ‵ (ShrSlice (named 0) (α ∷ []) T.the-row .own (lent l₃ γ) (v l₃ ∷ [])) ⊛ ‵ (flent (α ∷ []) (arr-parts (shares T.the-row) (length ys) .part fullShare ys l₃ 0)))))
+        use1 W (later (some (λ (γ : GName). ‵ (ShrSlice (named 0) (α ∷ []) T.the-row .own (lent l₃ γ) (v l₃ ∷ [])) ⊛ ‵
+        (flent (α ∷ []) (arr-parts (shares T.the-row) (length ys) .part fullShare ys l₃ 0)))))
         (lends-shr-slice 𝓤 H A W T.the-row (named 0) (α ∷ []) fullShare ys l₃ 0 room) $ await ! tt $ pick ! (λ γ. split ! $
         -- [the slice; `lent`; the token; the other boxes; _5; …; _4; …; _3's; _2; …; _1; …; room for _0; …]
         move ! (2 ∷ 0 ∷ []) $ use2 W (raw (Boxes 𝓤 H A mem′ run .pre (to (α ∷ []) fullShare l₃ γ))) (asks (α ∷ []) fullShare l₃ γ) $
         calls-at ! (fmOf 𝓤 H (W .laws) 𝓣) (Boxes 𝓤 H A mem′ run) known (to (α ∷ []) fullShare l₃ γ) (and-then ! (load ! (from ! (stop !)) (look ! 3 refl)) (no-more !)) (λ u.
-        use1 W (later (some (λ (r : U64Answer). ((‵ (flft (α ∷ []) fullShare) ⊛ ‵ ftrue) ⊛ ‵ (S.the-row .own r (u ∷ []))) ⊛ raw (ensured 𝓤 H A boxes.ended (boxes.clauses 𝓤 H A mem′ run) (α ∷ [], tt) (lent l₃ γ, tt) tt r)))) (id⊢ 𝓤 _) $ await ! tt $ pick ! (λ r.
+        use1 W (later (some (λ (r : U64Answer). ((‵ (flft (α ∷ []) fullShare) ⊛ ‵ ftrue) ⊛ ‵ (S.the-row .own r (u ∷ []))) ⊛ raw
+        (ensured 𝓤 H A boxes.ended (boxes.clauses 𝓤 H A mem′ run) (α ∷ [], tt) (lent l₃ γ, tt) tt r)))) (id⊢ 𝓤 _) $ await ! tt $ pick ! (λ r.
         split ! $ move ! (1 ∷ []) $ use1 W (raw (fact 𝓤 (Summed r))) (said (α ∷ []) l₃ γ r) $ heard ! (Summed r) (λ e. split ! $ move ! (1 ∷ []) $
         facts ! S.the-row (Is S.the-row) (shows 𝓤 H A S.the-row) r (u ∷ []) (λ js. split ! $ move ! (1 ∷ []) $ drop ! $
         -- [the token; `lent`; the other boxes; _5; …]: the lifetime is ended, and the array is whole again
@@ -206,14 +212,19 @@ module _ {M : Type 1} (𝓤 : URA M) (H : Heap 𝓤) (A : Atoms 𝓤) (W : Given
         use1 W (‵ (partAt Row fullShare xs l₃ 0)) (array-whole 𝓤 H A W T.the-row fullShare places xs l₃ 0) $ use1 W (‵ (froom arr l₃ 0)) (comes-out 𝓤 H A W xs l₃) $
         -- [room for _3; _5; …; _4; …; _3's; _2; …; _1; …; _0; …]
         returns ! (look ! 10 refl) $ forget ! 1 refl $ forget ! 3 refl $ forget ! 6 refl $ forget ! 8 refl $ forget ! 10 refl $
-        move ! (10 ∷ 11 ∷ []) $ free1 ! $ move ! (8 ∷ 9 ∷ []) $ free1 ! $ move ! (6 ∷ 7 ∷ []) $ free1 ! $ move ! (0 ∷ 5 ∷ []) $ free1 ! $ move ! (2 ∷ 3 ∷ []) $ free1 ! $ free1 ! $ free0 ! $ by ! (exits r u js e)))))))))))))
+        move ! (10 ∷ 11 ∷ []) $ free1 ! $ move ! (8 ∷ 9 ∷ []) $ free1 ! $ move ! (6 ∷ 7 ∷ []) $ free1 ! $ move ! (0 ∷ 5 ∷ []) $ free1 ! $ move !
+        (2 ∷ 3 ∷ []) $ free1 ! $ free1 ! $ free0 ! $ by ! (exits r u js e)))))))))))))
 
   this-walks : Walks 𝓤 H A this.ended stayed (WpFn 𝓤 H (𝓣 .C) (𝓣 .Λ) code.function) (this.clauses 𝓤 H A mem′ run)
-  this-walks = walked 𝓤 H A this.ended stayed (this.clauses 𝓤 H A mem′ run) (WpFn 𝓤 H (𝓣 .C) (𝓣 .Λ) code.function) (λ κs. (array-vals (LL.vals T.the-type T′.the-laws), (uint-vals w64, tt))) (λ κs. (array-tells T.the-row (LL.vals T.the-type T′.the-laws) (LL.tells T.the-type T′.the-laws) places, (uint-tells w64, tt)))
+  this-walks = walked 𝓤 H A this.ended stayed (this.clauses 𝓤 H A mem′ run) (WpFn 𝓤 H (𝓣 .C) (𝓣 .Λ) code.function)
+      (λ κs. (array-vals (LL.vals T.the-type T′.the-laws), (uint-vals w64, tt)))
+      (λ κs. (array-tells T.the-row (LL.vals T.the-type T′.the-laws) (LL.tells T.the-type T′.the-laws) places, (uint-tells w64, tt)))
       (λ κs qs bounds a gh are. needs 𝓤 _ _ (λ few. walk (a .0) (a .1 .0) (are .0) (are .1 .0 .1) few))
 
   this-meets : Meets 𝓤 H A this.signature (WpFn 𝓤 H (𝓣 .C) (𝓣 .Λ) code.function) (this.spec 𝓤 H A mem′ run)
-  this-meets = walk-meets 𝓤 H A this.ended stayed W (goes-none 𝓤 H A W 0 (λ _. Row) yes (λ κs x f. refl), (goes-none 𝓤 H A W 0 (λ _. usize) yes (λ κs x f. refl), tt)) (this.clauses 𝓤 H A mem′ run) (WpFn 𝓤 H (𝓣 .C) (𝓣 .Λ) code.function) (WpFn-mono 𝓤 H (W .laws) 𝓣 code.function) this-walks
+  this-meets = walk-meets 𝓤 H A this.ended stayed W
+      (goes-none 𝓤 H A W 0 (λ _. Row) yes (λ κs x f. refl), (goes-none 𝓤 H A W 0 (λ _. usize) yes (λ κs x f. refl), tt)) (this.clauses 𝓤 H A mem′ run)
+      (WpFn 𝓤 H (𝓣 .C) (𝓣 .Λ) code.function) (WpFn-mono 𝓤 H (W .laws) 𝓣 code.function) this-walks
 
 pub lend-spec : {M : Type 1} → stated.statement M
 unfolding code.routine tablesOf
