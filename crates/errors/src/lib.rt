@@ -1,6 +1,7 @@
 // The refusals of document 01, "Who can cause a refusal": a case for each number, and the number of each case.
 ghost use mathlib.Core.Path.{_≡_};
 ghost use Rattle.errors.specs.Answer.{numberOf};
+ghost use Rattle.errors.specs.Turn.{firstOf, turnOf};
 
 pub enum Refusal {
     // 1: a zoom above the deepest one.
@@ -84,4 +85,21 @@ pub fn number(why: Refusal) -> u8
         Refusal::Brackets => 14,
         Refusal::NoForm => 15,
     }
+}
+
+// The turn in which a refusal is tested: of two that apply, the one with the lower turn is given.
+pub fn turn(why: Refusal) -> u8
+    ensures { λ r. ⌜ r ≡ turnOf (numberOf why) ⌝ }
+{
+    number(why)
+}
+
+// The refusal of two that is tested first.
+pub fn first(a: Refusal, b: Refusal) -> Refusal
+    ensures { λ r. ⌜ numberOf r ≡ firstOf (numberOf a) (numberOf b) ⌝ }
+{
+    if turn(b) < turn(a) {
+        return b;
+    }
+    a
 }

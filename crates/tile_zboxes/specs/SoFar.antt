@@ -2,7 +2,7 @@
 use mathlib.Core.Path.{_≡_, refl, sym, ap, _∙_}
 use mathlib.Core.Bool.{Bool, true, false, _||_}
 use mathlib.Core.List.{List, [], _∷_, _++_}
-use Prim.Native.Nat.{ℕ, zero, suc, _+_, _^_, _≤_, _<_, min}
+use Prim.Native.Nat.{ℕ, zero, suc, _+_, _^_, _≤_, _<_}
 use native.Mathlib.Nat.{add-assoc}
 use native.Mathlib.Numerals.{add-one}
 use native.Mathlib.Omega.{arith}
@@ -13,6 +13,7 @@ use borrow.Author.Tests.{lt-ltb, le-ltb}
 use Rattle.bits.specs.Tests.{anyOf, any-append}
 use Rattle.constants.specs.Limits.{maxBoxes}
 use Rattle.errors.specs.Answer.{Answer, answer, _when_, _else_}
+use Rattle.errors.specs.Turn.{firstOf, turnOf}
 use Rattle.tile_zbox.specs.Box.{noBox, wrongEdges, boxRefusal, boxLength, lengthOf}
 use Rattle.tile_zbox_numbers.specs.Boxes.{deep, refusalOver, sumLengths, boxesLengthOf}
 use Rattle.tile_zbox.specs.Laws.{accepted-box, length-small}
@@ -24,32 +25,9 @@ infixl 20 _plus_
 abbrev pub soFar : ℕ → List TileZBox → Answer ℕ
 soFar n bs = answer (refusalOver bs n) 0 (sumLengths bs)
 
--- the lower of two refusals; 0 is none
-unfoldable pub lowest : ℕ → ℕ → ℕ
-lowest zero m = m
-lowest (suc n) zero = suc n
-lowest (suc n) (suc m) = suc (min n m)
-
--- two answers as one: the lowest number, or else the sum
+-- two answers as one: the refusal that is tested first, or else the sum
 unfoldable pub _plus_ : Answer ℕ → Answer ℕ → Answer ℕ
-a plus b = answer (lowest (a .number) (b .number)) 0 (a .value + b .value)
-
-pub lowest-alone : (n : ℕ) → lowest n 0 ≡ n
-unfolding lowest
-lowest-alone zero = refl
-lowest-alone (suc n) = refl
-
-pub lowest-first : (n m : ℕ) → 0 < n → n ≤ m → n ≡ lowest n m
-unfolding lowest
-lowest-first zero m h k = absurd (omega arith)
-lowest-first (suc n) zero h k = absurd (omega arith)
-lowest-first (suc n) (suc m) h k = omega arith
-
-pub lowest-second : (n m : ℕ) → 0 < m → m < n → m ≡ lowest n m
-unfolding lowest
-lowest-second zero m h k = absurd (omega arith)
-lowest-second (suc n) zero h k = absurd (omega arith)
-lowest-second (suc n) (suc m) h k = omega arith
+a plus b = answer (firstOf (a .number) (b .number)) 0 (a .value + b .value)
 
 pub none-of-many : (n : ℕ) → maxBoxes < n → soFar n [] ≡ record { number = 6; value = 0 }
 unfolding refusalOver
@@ -59,23 +37,23 @@ pub none-of-few : (n : ℕ) → n ≤ maxBoxes → soFar n [] ≡ record { numbe
 unfolding refusalOver
 none-of-few n h = rw (any-none deep, le-ltb _ _ h, any-none wrongEdges, sum-none)
 
--- one box more: the lowest number over the boxes and the count, and that of the box
-lowest-more : (deeper many wrong d w : Bool) (s l : ℕ)
+-- one box more: the first refusal over the boxes and the count, and that of the box
+first-more : (deeper many wrong d w : Bool) (s l : ℕ)
     → answer (1 when (deeper || d) else 6 when many else 10 when (wrong || w)) 0 (s + l)
     ≡ answer (1 when deeper else 6 when many else 10 when wrong) 0 s plus answer (1 when d else 10 when w) 0 l
-unfolding _plus_ lowest
-lowest-more true many wrong true w s l = refl
-lowest-more true many wrong false true s l = refl
-lowest-more true many wrong false false s l = refl
-lowest-more false true wrong true w s l = refl
-lowest-more false true wrong false true s l = refl
-lowest-more false true wrong false false s l = refl
-lowest-more false false true true w s l = refl
-lowest-more false false true false true s l = refl
-lowest-more false false true false false s l = refl
-lowest-more false false false true w s l = refl
-lowest-more false false false false true s l = refl
-lowest-more false false false false false s l = refl
+unfolding _plus_ firstOf turnOf
+first-more true many wrong true w s l = refl
+first-more true many wrong false true s l = refl
+first-more true many wrong false false s l = refl
+first-more false true wrong true w s l = refl
+first-more false true wrong false true s l = refl
+first-more false true wrong false false s l = refl
+first-more false false true true w s l = refl
+first-more false false true false true s l = refl
+first-more false false true false false s l = refl
+first-more false false false true w s l = refl
+first-more false false false false true s l = refl
+first-more false false false false false s l = refl
 
 any-last : (p : TileZBox → Bool) (bs : List TileZBox) (b : TileZBox) → anyOf p (bs ++ (b ∷ [])) ≡ anyOf p bs || p b
 unfolding anyOf
@@ -93,7 +71,7 @@ sum-last (a ∷ bs) b = rw (sum-last bs b) (sym (add-assoc (boxLength a) (sumLen
 one-more : (n : ℕ) (bs : List TileZBox) (b : TileZBox) → soFar n (bs ++ (b ∷ [])) ≡ soFar n bs plus lengthOf b
 unfolding refusalOver boxRefusal
 one-more n bs b = rw (any-last deep bs b, any-last wrongEdges bs b, sum-last bs b)
-    (lowest-more (anyOf deep bs) (ltb maxBoxes n) (anyOf wrongEdges bs) (deep b) (wrongEdges b) (sumLengths bs) (boxLength b))
+    (first-more (anyOf deep bs) (ltb maxBoxes n) (anyOf wrongEdges bs) (deep b) (wrongEdges b) (sumLengths bs) (boxLength b))
 
 -- the box at place i of the list, where the first i are read
 pub with-next : (n i : ℕ) (bs : List TileZBox) → i < length bs → soFar n (take i bs) plus lengthOf (getD bs i noBox) ≡ soFar n (take (i + 1) bs)

@@ -7,13 +7,13 @@ use tile_zbox::TileZBox;
 ghost use mathlib.Core.Path.{_≡_};
 ghost use mathlib.Core.List.{[]};
 ghost use Prim.Native.Nat.{_+_, _<_, _^_};
-ghost use Rattle.errors.specs.Answer.{answer, numberOf};
+ghost use Rattle.errors.specs.Answer.{answer};
 ghost use Rattle.errors.specs.Cases.{u64Case, refusedAs};
 ghost use Rattle.tile_zbox.specs.Box.{lengthOf};
 ghost use Rattle.tile_zbox_numbers.specs.Boxes.{boxesLengthOf};
-ghost use Rattle.tile_zboxes.specs.SoFar.{soFar, lowest, _plus_};
+ghost use Rattle.tile_zboxes.specs.SoFar.{soFar, _plus_};
 
-// The lowest number over all boxes and their count, or else the sum. The borrow checker covers no function over a slice of structs:
+// The first refusal over all boxes and their count, or else the sum. The borrow checker covers no function over a slice of structs:
 // this one is proved by hand, and so it only reads the boxes one by one. What is done with them is in the functions below.
 pub fn boxes_length(boxes: &[TileZBox]) -> U64Answer
     ensures { λ r. ⌜ u64Case r ≡ boxesLengthOf (now (boxes .entry)) ⌝ }
@@ -59,21 +59,12 @@ fn with_length(sum: U64Answer, length: u64) -> U64Answer
     }
 }
 
-// The lowest number stands.
+// The refusal that is tested first stands.
 fn with_refusal(sum: U64Answer, why: Refusal) -> U64Answer
     ensures { λ r. ⌜ u64Case r ≡ u64Case sum plus refusedAs why 0 ⌝ }
 {
     match sum {
         U64Answer::Number(_) => U64Answer::Refused(why),
-        U64Answer::Refused(before) => U64Answer::Refused(lower(before, why)),
+        U64Answer::Refused(before) => U64Answer::Refused(errors::first(before, why)),
     }
-}
-
-fn lower(a: Refusal, b: Refusal) -> Refusal
-    ensures { λ r. ⌜ numberOf r ≡ lowest (numberOf a) (numberOf b) ⌝ }
-{
-    if errors::number(b) < errors::number(a) {
-        return b;
-    }
-    a
 }
