@@ -1,4 +1,9 @@
--- What the pass makes of a list of locations, and what its parts do: locations are taken off the stack, and families are joined.
+-- What the pass makes of a list of locations, and what its parts do. The locations that are kept stand as a stack at the front.
+--   Settles m before after r     the first r numbers are the locations of what `before` comes to
+--   Stand l count k              k on top of the first `count`, locations all of them
+--   Popped l start count r       those above `start` are taken off the top, and r are left
+--   Family m T n t p             t and the last three of n tiles are the four children of p
+--   Joins m l c j count k        families on top are joined until none is there
 use mathlib.Core.Path.{_≡_}
 use mathlib.Core.List.{List}
 use Prim.Native.Nat.{ℕ, _-_, _≤_, _<_}

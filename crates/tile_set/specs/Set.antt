@@ -1,5 +1,13 @@
 -- Sets of tiles, and what document 01's "Tile list" does with them: tiles under an ancestor are dropped, four siblings become their parent.
--- D is the deepest zoom. A set is a test of tiles.
+-- D is the deepest zoom, m the minimum zoom. A set is a test of tiles.
+--   ancestor t s, parentTile t     the ancestor of zoom s, and the parent
+--   child p i j                    the child in column i and row j of the four
+--   whole S p                      the set holds all four children of p: a family
+--   joins m S, joined m S          the tiles that one pass of merging takes away, and the parents that it puts in their place
+--   merged m S, passes n m S       the set after one pass, and after n
+--   uncovered k S                  the tiles that have no ancestor in the set, or none far enough above
+--   simplified D m S, simplifiedV1 D m S     what `simplify` and `simplify_v1` make of the set
+--   inOrder D S                    the set as a list, in the order of every list
 use mathlib.Core.Bool.{Bool, false, cond, not, _&&_, _||_}
 use mathlib.Core.List.{List, [], _∷_, _++_}
 use Prim.Native.Nat.{ℕ, zero, suc, _+_, _-_, _*_, _/_, _^_}
