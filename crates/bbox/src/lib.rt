@@ -25,6 +25,7 @@ pub struct BBoxes {
 }
 
 impl BBox {
+    // The box of four edges, in degrees.
     pub fn new(west: f64, south: f64, east: f64, north: f64) -> Self
         ensures { λ r. ⌜ r ≡ box west south east north ⌝ }
     {
@@ -36,18 +37,21 @@ impl BBox {
         }
     }
 
+    // Another name of `crosses_antimeridian`.
     pub fn is_antimeridian(self) -> bool
         ensures { λ r. ⌜ r ≡ crosses self ⌝ }
     {
         self.crosses_antimeridian()
     }
 
+    // Whether the box goes over the antimeridian: its west is above its east.
     pub fn crosses_antimeridian(self) -> bool
         ensures { λ r. ⌜ r ≡ crosses self ⌝ }
     {
         self.west > self.east
     }
 
+    // Whether a point lies in the box or on its edge; where the box crosses the antimeridian, from west on or up to east.
     pub fn contains_lnglat(self, lnglat: LngLat) -> bool
         ensures { λ r. ⌜ r ≡ containsPoint self lnglat ⌝ }
     {
@@ -60,6 +64,7 @@ impl BBox {
         }
     }
 
+    // Whether the other box's edges lie inside this one's; where only this one crosses the antimeridian, from its west on or up to its east.
     pub fn contains_bbox(self, other: BBox) -> bool
         ensures { λ r. ⌜ r ≡ containsBox self other ⌝ }
     {
@@ -83,6 +88,7 @@ impl BBox {
         }
     }
 
+    // Whether this box's edges lie inside the other's, with no notice of the antimeridian.
     pub fn is_within(self, other: BBox) -> bool
         ensures { λ r. ⌜ r ≡ within self other ⌝ }
     {
@@ -92,6 +98,7 @@ impl BBox {
             & (self.west >= other.west)
     }
 
+    // Whether the two boxes meet, if only at an edge, with no notice of the antimeridian.
     pub fn intersects(self, other: BBox) -> bool
         ensures { λ r. ⌜ r ≡ meets self other ⌝ }
     {

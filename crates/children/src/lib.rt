@@ -21,12 +21,14 @@ pub fn children(x: u32, y: u32, z: u8, zoom: OptionU8, out: &mut [u64]) -> Count
     descend(1, x, y, z, zoom, out)
 }
 
+// The same as `children`, each family by digits 0, 1, 2, 3.
 pub fn children_zorder(x: u32, y: u32, z: u8, zoom: OptionU8, out: &mut [u64]) -> Count
     ensures { λ r. ⌜ left r (now (out .exit)) ≡ childrenOf zOrder x y z (given zoom (z + 1)) (now (out .entry)) ⌝ }
 {
     descend(0, x, y, z, zoom, out)
 }
 
+// The four children of a tile, by digits 0, 1, 2, 3.
 pub fn children1_zorder(x: u32, y: u32, z: u8, out: &mut [u64]) -> Count
     ensures { λ r. ⌜ left r (now (out .exit)) ≡ childrenOf zOrder x y z (z + 1) (now (out .entry)) ⌝ }
 {

@@ -65,6 +65,7 @@ pub enum U64Answer {
     Refused(Refusal),
 }
 
+// The number by which document 01 names a refusal.
 pub fn number(why: Refusal) -> u8
     ensures { λ r. ⌜ r ≡ numberOf why ⌝ }
 {

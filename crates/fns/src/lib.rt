@@ -24,6 +24,7 @@ pub enum LimitsAnswer {
     Refused(Refusal),
 }
 
+// The first and the last column, and row, of a zoom.
 pub fn minmax(zoom: u8) -> LimitsAnswer
     ensures { λ r. ⌜ minMaxCase r ≡ minMaxOf zoom ⌝ }
 {
@@ -36,6 +37,7 @@ pub fn minmax(zoom: u8) -> LimitsAnswer
     }
 }
 
+// Whether x, y and z name a tile of the map, told as yes or no.
 pub fn valid(x: u32, y: u32, z: u8) -> bool
     ensures { λ r. ⌜ r ≡ isTile x y z ⌝ }
 {
@@ -55,6 +57,7 @@ pub fn flipy(y: u32, z: u8) -> U32Answer
     }
 }
 
+// Another name of `flipy`.
 pub fn yflip(y: u32, z: u8) -> U32Answer
     ensures { λ r. ⌜ u32Case r ≡ flipyOf y z ⌝ }
 {

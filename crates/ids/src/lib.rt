@@ -13,6 +13,7 @@ ghost use Rattle.ids.specs.Entry.{entryOf, entryTileOf};
 ghost use Rattle.ids.specs.Id.{idOf, toIdOf, fromIdOf};
 ghost use Rattle.ids.specs.Rmid.{levelStart, toRmidOf, zoomOf, offsetZoomCase, offsetZoomOf, fromRmidOf};
 
+// The number (2^(z + 1) * y + x) * 32 + z of a tile.
 pub fn to_id(x: u32, y: u32, z: u8) -> U64Answer
     ensures { λ r. ⌜ u64Case r ≡ toIdOf x y z ⌝ }
 {
@@ -29,6 +30,7 @@ fn id(x: u32, y: u32, z: u8) -> u64
     (bits::wide_pow2(z + 1) * (y as u64) + (x as u64)) * 32 + (z as u64)
 }
 
+// The tile of a number of `to_id`.
 pub fn from_id(id: u64) -> TileAnswer
     ensures { λ r. ⌜ tileCase r ≡ fromIdOf id ⌝ }
 {
@@ -79,6 +81,7 @@ pub enum OffsetZoomAnswer {
     Refused(Refusal),
 }
 
+// The number of a tile counted row by row, from the root on.
 pub fn xyz2rmid(x: u32, y: u32, z: u8) -> U64Answer
     ensures { λ r. ⌜ u64Case r ≡ toRmidOf x y z ⌝ }
 {
@@ -98,6 +101,7 @@ fn level_start(z: u8) -> u64
     (bits::wide_pow2(2 * z) - 1) / 3
 }
 
+// The zoom of a number of `xyz2rmid`, and its offset among the numbers of that zoom.
 pub fn int_2_offset_zoom(i: u64) -> OffsetZoomAnswer
     ensures { λ r. ⌜ offsetZoomCase r ≡ offsetZoomOf i ⌝ }
 {
@@ -125,6 +129,7 @@ fn zoom_of(i: u64) -> u8
     z
 }
 
+// The tile of a number of `xyz2rmid`.
 pub fn rmid2xyz(i: u64) -> TileAnswer
     ensures { λ r. ⌜ tileCase r ≡ fromRmidOf i ⌝ }
 {

@@ -33,6 +33,7 @@ pub enum NextAnswer {
     Refused(Refusal),
 }
 
+// The cursor that starts at the parent of a tile; at its end for the root.
 pub fn iter_parents(x: u32, y: u32, z: u8) -> ParentsAnswer
     ensures { λ r. ⌜ parentsCase r ≡ iterOf x y z ⌝ }
 {
@@ -46,6 +47,7 @@ pub fn iter_parents(x: u32, y: u32, z: u8) -> ParentsAnswer
 }
 
 impl Parents {
+    // What the cursor gives, a tile or nothing, and the cursor after it.
     pub fn next(self) -> NextAnswer
         ensures { λ r. ⌜ nextCase r ≡ nextOf (self .current) ⌝ }
     {

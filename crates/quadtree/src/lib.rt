@@ -41,6 +41,7 @@ fn gather(n: u64) -> u64
     (v | (v >> 16)) & 0x0000_0000_ffff_ffff
 }
 
+// A tile's Morton code, behind a leading 1.
 pub fn morton(t: Tile) -> u64
     requires { ⌜ OfMap t ⌝ }
     ensures { λ r. ⌜ r ≡ mortonOf t ⌝ }
@@ -48,6 +49,7 @@ pub fn morton(t: Tile) -> u64
     bits::wide_pow2(2 * t.z) + spread(t.x) + 2 * spread(t.y)
 }
 
+// A tile's locational code.
 pub fn location(t: Tile) -> u64
     requires { ⌜ OfMap t ⌝ }
     ensures { λ r. ⌜ r ≡ locationOf t ⌝ }
@@ -63,6 +65,7 @@ fn zoom_in(n: u64) -> u8
     ((63 - u64::leading_zeros(n)) / 2) as u8
 }
 
+// The rank of the tile of a Morton code.
 pub fn rank_of_morton(q: u64) -> u64
     requires { ⌜ TileNumber mortonOf q ⌝ }
     ensures { λ r. ⌜ r ≡ rankOf (mortonTile q) ⌝ }
@@ -70,6 +73,7 @@ pub fn rank_of_morton(q: u64) -> u64
     (gather(q) << zoom_in(q)) + gather(q >> 1)
 }
 
+// The rank of the tile of a location.
 pub fn rank_of_location(p: u64) -> u64
     requires { ⌜ TileNumber locationOf p ⌝ }
     ensures { λ r. ⌜ r ≡ rankOf (locationTile p) ⌝ }

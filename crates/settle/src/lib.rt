@@ -57,6 +57,7 @@ struct Top {
     location: u64,
 }
 
+// The zoom of the tile of a location.
 pub fn zoom(k: u64) -> u8
     requires { ⌜ IsLocation k ⌝ }
     ensures { λ r. ⌜ r ≡ locationTile k .z ⌝ }
@@ -64,6 +65,7 @@ pub fn zoom(k: u64) -> u8
     MAX_ZOOM - (u64::trailing_zeros(k) / 2) as u8
 }
 
+// The Morton code of the tile of a location.
 pub fn morton(k: u64) -> u64
     requires { ⌜ IsLocation k ⌝ }
     ensures { λ r. ⌜ r ≡ mortonOf (locationTile k) ⌝ }

@@ -29,6 +29,7 @@ impl SiblingRelationship {
         }
     }
 
+    // The number that the Rust gives each: upper left 0, upper right 1, lower left 2, lower right 3.
     pub fn number(self) -> u8
         ensures { λ r. ⌜ r ≡ relationNumber self ⌝ }
     {

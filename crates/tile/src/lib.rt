@@ -32,6 +32,7 @@ pub enum OptionU8 {
 }
 
 impl OptionU8 {
+    // The byte, or else the one that is named for none.
     pub fn unwrap_or(self, other: u8) -> u8
         ensures { λ r. ⌜ r ≡ given self other ⌝ }
     {
@@ -83,6 +84,7 @@ pub fn side(x: u32, y: u32, z: u8) -> U32Answer
 }
 
 impl Tile {
+    // The tile at column x and row y of zoom z, where that is one of the map.
     pub fn try_new(x: u32, y: u32, z: u8) -> TileAnswer
         ensures { λ r. ⌜ tileCase r ≡ tryNew x y z ⌝ }
     {
@@ -129,48 +131,56 @@ impl Tile {
         }
     }
 
+    // The tile at (x + 1, y), where that is on the map; the name is the Rust's.
     pub fn up(self) -> TileAnswer
         ensures { λ r. ⌜ tileCase r ≡ upOf self ⌝ }
     {
         self.step(Step::On, Step::Stay)
     }
 
+    // The tile at (x - 1, y), where that is on the map; the name is the Rust's.
     pub fn down(self) -> TileAnswer
         ensures { λ r. ⌜ tileCase r ≡ downOf self ⌝ }
     {
         self.step(Step::Back, Step::Stay)
     }
 
+    // The tile at (x, y - 1), where that is on the map; the name is the Rust's.
     pub fn left(self) -> TileAnswer
         ensures { λ r. ⌜ tileCase r ≡ leftOf self ⌝ }
     {
         self.step(Step::Stay, Step::Back)
     }
 
+    // The tile at (x, y + 1), where that is on the map; the name is the Rust's.
     pub fn right(self) -> TileAnswer
         ensures { λ r. ⌜ tileCase r ≡ rightOf self ⌝ }
     {
         self.step(Step::Stay, Step::On)
     }
 
+    // The tile at (x + 1, y - 1), where that is on the map; the name is the Rust's.
     pub fn up_left(self) -> TileAnswer
         ensures { λ r. ⌜ tileCase r ≡ upLeftOf self ⌝ }
     {
         self.step(Step::On, Step::Back)
     }
 
+    // The tile at (x + 1, y + 1), where that is on the map; the name is the Rust's.
     pub fn up_right(self) -> TileAnswer
         ensures { λ r. ⌜ tileCase r ≡ upRightOf self ⌝ }
     {
         self.step(Step::On, Step::On)
     }
 
+    // The tile at (x - 1, y - 1), where that is on the map; the name is the Rust's.
     pub fn down_left(self) -> TileAnswer
         ensures { λ r. ⌜ tileCase r ≡ downLeftOf self ⌝ }
     {
         self.step(Step::Back, Step::Back)
     }
 
+    // The tile at (x - 1, y + 1), where that is on the map; the name is the Rust's.
     pub fn down_right(self) -> TileAnswer
         ensures { λ r. ⌜ tileCase r ≡ downRightOf self ⌝ }
     {

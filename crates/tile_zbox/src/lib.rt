@@ -62,6 +62,7 @@ impl TileZBox {
         wrong_run(self.minx, self.maxx, end) || wrong_run(self.miny, self.maxy, end)
     }
 
+    // The box itself, where it is one of the map.
     pub fn new(minx: u32, maxx: u32, miny: u32, maxy: u32, zoom: u8) -> BoxAnswer
         ensures { λ r. ⌜ boxCase r ≡ newOf minx maxx miny maxy zoom ⌝ }
     {
@@ -210,6 +211,7 @@ impl TileZBox {
         wide(self.maxx - self.minx + 1) * wide(self.maxy - self.miny + 1)
     }
 
+    // Another name of `length`.
     pub fn size(self) -> U64Answer
         ensures { λ r. ⌜ u64Case r ≡ lengthOf self ⌝ }
     {
@@ -226,6 +228,7 @@ impl TileZBox {
         }
     }
 
+    // The greatest y less the least: one less than the rows.
     pub fn dy(self) -> U32Answer
         ensures { λ r. ⌜ u32Case r ≡ dyOf self ⌝ }
     {
@@ -235,18 +238,21 @@ impl TileZBox {
         }
     }
 
+    // Another name of `dx`.
     pub fn width(self) -> U32Answer
         ensures { λ r. ⌜ u32Case r ≡ dxOf self ⌝ }
     {
         self.dx()
     }
 
+    // Another name of `dy`.
     pub fn height(self) -> U32Answer
         ensures { λ r. ⌜ u32Case r ≡ dyOf self ⌝ }
     {
         self.dy()
     }
 
+    // Both `dx` and `dy`.
     pub fn dxdy(self) -> ExtentAnswer
         ensures { λ r. ⌜ extentCase r ≡ dxdyOf self ⌝ }
     {

@@ -26,12 +26,14 @@ pub enum NextAnswer {
 }
 
 impl TileZBoxIterator {
+    // The cursor before the first tile of a box.
     pub fn from(range: TileZBox) -> Self
         ensures { λ r. ⌜ r ≡ cursorAt range 0 ⌝ }
     {
         Self { range, given: 0 }
     }
 
+    // The next tile, x first, then y, and the cursor after it.
     pub fn next(self) -> NextAnswer
         ensures { λ r. ⌜ nextCase r ≡ nextOf self ⌝ }
     {

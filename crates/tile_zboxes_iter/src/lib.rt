@@ -24,12 +24,14 @@ pub enum BoxesNextAnswer {
 }
 
 impl TileZBoxesIterator {
+    // The cursor before the first tile of the first box.
     pub fn new() -> Self
         ensures { λ r. ⌜ r ≡ boxesCursorAt 0 ⌝ }
     {
         Self { given: 0 }
     }
 
+    // The next tile, box by box, and the cursor after it.
     pub fn next(self, boxes: &[u32]) -> BoxesNextAnswer
         ensures { λ r. ⌜ boxesNextCase r ≡ boxesNextOf self (now (boxes .entry)) ⌝ }
     {
