@@ -218,9 +218,9 @@ meeting-boxes-share a b ha hb =
 
 -- ---- The parts of a box
 
-abbrev pub anyOf : List BBox → (BBox → Bool) → Bool
-anyOf [] test = false
-anyOf (b ∷ bs) test = test b || anyOf bs test
+abbrev pub anyBox : List BBox → (BBox → Bool) → Bool
+anyBox [] test = false
+anyBox (b ∷ bs) test = test b || anyBox bs test
 
 -- its west edge is at most 180, and its east edge at least -180
 abbrev pub onMap : BBox → Bool
@@ -241,18 +241,18 @@ module _ (b : BBox) (h : T (onMap b)) where
 
 -- a test agrees with that of the parts, if it does where there are two of them
 by-parts : (b : BBox) (test : BBox → Bool) → (crosses b ≡ true → test (toAntimeridian b) || (test (fromAntimeridian b) || false) ≡ test b)
-    → anyOf (parts b) test ≡ test b
+    → anyBox (parts b) test ≡ test b
 by-parts b test halves = go (crosses b) refl
   where
-    go : (c : Bool) → crosses b ≡ c → anyOf (cond c (toAntimeridian b ∷ fromAntimeridian b ∷ []) (b ∷ [])) test ≡ test b
+    go : (c : Bool) → crosses b ≡ c → anyBox (cond c (toAntimeridian b ∷ fromAntimeridian b ∷ []) (b ∷ [])) test ≡ test b
     go true e = halves e
     go false e = or-false (test b)
 
 -- No part of a box on the map crosses.
-pub parts-do-not-cross : (b : BBox) → T (onMap b) → T (not (anyOf (parts b) crosses))
+pub parts-do-not-cross : (b : BBox) → T (onMap b) → T (not (anyBox (parts b) crosses))
 parts-do-not-cross b h = go (crosses b) refl
   where
-    go : (c : Bool) → c ≡ crosses b → T (not (anyOf (cond c (toAntimeridian b ∷ fromAntimeridian b ∷ []) (b ∷ [])) crosses))
+    go : (c : Bool) → c ≡ crosses b → T (not (anyBox (cond c (toAntimeridian b ∷ fromAntimeridian b ∷ []) (b ∷ [])) crosses))
     go true e =
         laws.neither (crosses (toAntimeridian b)) (crosses (fromAntimeridian b) || false) (first-does-not-cross b h)
         (laws.neither (crosses (fromAntimeridian b)) false (second-does-not-cross b h) tt)
@@ -260,7 +260,7 @@ parts-do-not-cross b h = go (crosses b) refl
 
 -- A point on the map is in such a box exactly if it is in one of its parts,
 pub parts-contain-its-points : (b : BBox) (p : LngLat) → T (onMap b) → T (atMost mapWest (p .lng)) → T (atMost (p .lng) mapEast)
-    → anyOf (parts b) (λ q. containsPoint q p) ≡ containsPoint b p
+    → anyBox (parts b) (λ q. containsPoint q p) ≡ containsPoint b p
 parts-contain-its-points b p h l r =
     by-parts b (λ q. containsPoint q p)
     (λ e. rw (uncrossed-first b h, uncrossed-second b h, is-true (atMost (p .lng) mapEast) r, is-true (atMost mapWest (p .lng)) l, e)
@@ -268,7 +268,7 @@ parts-contain-its-points b p h l r =
 
 -- and so is a box on the map that does not cross: the Rust's `||` says just that.
 pub parts-contain-its-boxes : (a b : BBox) → T (onMap a) → T (not (crosses b)) → T (atMost mapWest (b .west)) → T (atMost (b .east) mapEast)
-    → anyOf (parts a) (λ q. containsBox q b) ≡ containsBox a b
+    → anyBox (parts a) (λ q. containsBox q b) ≡ containsBox a b
 parts-contain-its-boxes a b h u l r =
     by-parts a (λ q. containsBox q b)
     (λ e. rw (uncrossed-first a h, uncrossed-second a h, is-true (atMost (b .east) mapEast) r, is-true (atMost mapWest (b .west)) l, e, is-false (crosses b) u)

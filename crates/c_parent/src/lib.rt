@@ -8,7 +8,7 @@ use tile::Tile;
 ghost use mathlib.Core.Path.{_≡_};
 ghost use Rattle.c_give.specs.Exported.{answered, never};
 ghost use Rattle.c_parent.specs.Cursor.{heldAt, heldOf, holding, nextAt, nextNumbers, parentsNumbers};
-ghost use Rattle.parent.specs.Parents.{iterOf, nextOf};
+ghost use Rattle.parent.specs.Parents.{iterOf, parentsNextOf};
 ghost use Rattle.sibling_relationship.specs.Relation.{relationAt};
 
 pub fn iter_parents(
@@ -50,7 +50,7 @@ pub fn next(
     rz: &mut u8,
 ) -> u8
     ensures { λ r. ⌜ answered r (nextAt (heldAt (now (count .exit)) (now (tx .exit)) (now (ty .exit)) (now (tz .exit)))
-        (heldAt (now (rest .exit)) (now (rx .exit)) (now (ry .exit)) (now (rz .exit)))) ≡ nextNumbers (nextOf (holding held x y z)) ⌝ }
+        (heldAt (now (rest .exit)) (now (rx .exit)) (now (ry .exit)) (now (rz .exit)))) ≡ nextNumbers (parentsNextOf (holding held x y z)) ⌝ }
 {
     let current = holding(held, x, y, z);
     let cursor = Parents { current };

@@ -6,7 +6,7 @@ ghost use mathlib.Core.Path.{_≡_};
 ghost use Rattle.c_give.specs.Exported.{answered, asByte, given};
 ghost use Rattle.tile_zbox_around.specs.Around.{fromTilesOf};
 ghost use Rattle.tile_zbox.specs.Box.{boxAt, boxCase, boxRefusal, containsOf, dimensionsOf, dxOf, dxdyOf, dyOf, extentAt, extentCase};
-ghost use Rattle.tile_zbox.specs.Box.{flipOf, fromTileOf, lengthOf, newOf, zoomDepthOf, zoomInOf};
+ghost use Rattle.tile_zbox.specs.Box.{boxFlipOf, fromTileOf, lengthOf, newOf, zoomDepthOf, zoomInOf};
 ghost use Rattle.tile_zbox_numbers.specs.Boxes.{boxesFlipOf, numbersLengthOf};
 
 pub fn new(
@@ -108,7 +108,7 @@ pub fn flipy(
     bottom: &mut u32,
 ) -> u8
     ensures { λ r. ⌜ answered r (boxAt (now (bz .exit)) (now (left .exit)) (now (right .exit)) (now (top .exit)) (now (bottom .exit)))
-        ≡ flipOf (boxAt zoom minx maxx miny maxy) ⌝ }
+        ≡ boxFlipOf (boxAt zoom minx maxx miny maxy) ⌝ }
 {
     give_box(
         zbox(zoom, minx, maxx, miny, maxy).flipy(),

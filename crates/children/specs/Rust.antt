@@ -5,7 +5,7 @@ use mathlib.Core.List.{List, [], _∷_, _++_}
 use Prim.Native.Nat.{ℕ, zero, suc}
 use lib.Dec.{ltb}
 use Rattle.bits.specs.Checked.{Run, stops, returns, _then_, plus, times}
-use Rattle.tile.specs.Given.{given}
+use Rattle.tile.specs.Option.{unwrapOr}
 use Rattle.tile.specs.Rust.{rustNew}
 use Rattle.tile.specs.declared.OptionU8.{OptionU8}
 use Rattle.tile.specs.declared.Tile.{Tile}
@@ -43,7 +43,7 @@ rustQueue four zoom (suc turns) (t ∷ tiles) =
 
 -- `zoom.unwrap_or(z + 1)`, whose argument is computed first, and the tile that the queue begins with
 abbrev pub rustDescend : (Tile → Run (List Tile)) → ℕ → ℕ → ℕ → ℕ → OptionU8 → Run (List Tile)
-rustDescend four turns x y z zoom = plus 8 z 1 then λ next. rustNew x y z then λ t. rustQueue four (given zoom next) turns (t ∷ [])
+rustDescend four turns x y z zoom = plus 8 z 1 then λ next. rustNew x y z then λ t. rustQueue four (unwrapOr zoom next) turns (t ∷ [])
 
 abbrev pub rustChildren : ℕ → ℕ → ℕ → ℕ → OptionU8 → Run (List Tile)
 rustChildren = rustDescend rustClockwise

@@ -12,7 +12,7 @@ use Rattle.bits.specs.Checked.{Run, returns, fits}
 use Rattle.constants.specs.Limits.{maxZoom}
 use Rattle.ids.specs.Entry.{entryOf, entryTile, entryRefusal, entry-accepted, entry-tile-again, entriesOf}
 use Rattle.ids.specs.Rmid.{levelStart}
-use Rattle.tile.specs.Given.{given}
+use Rattle.tile.specs.Option.{unwrapOr}
 use Rattle.tile.specs.OnMap.{OnMap, tileAt, on-map-accepted}
 use Rattle.tile.specs.Rust.{To29}
 use Rattle.tile.specs.declared.OptionU8.{OptionU8}
@@ -132,17 +132,17 @@ module _ (family : List ℕ) (size : length family ≡ 4) {x y z : ℕ} (m : OnM
 -- The Rust is held to tiles of zoom 0 to 29 and targets to 29. On them no check fails, and after as many turns as the zooms between have
 -- tiles, or more, its loop has ended with the descendants in our order.
 module _ (x y z : ℕ) (zoom : OptionU8) (turns : ℕ) (on-map : To29 x y z)
-    (target : given zoom (z + 1) ≤ 29) (enough : levelStart (given zoom (z + 1) - z) ≤ turns) where
+    (target : unwrapOr zoom (z + 1) ≤ 29) (enough : levelStart (unwrapOr zoom (z + 1) - z) ≤ turns) where
   descended : (family : List ℕ) → IsFamily family → length family ≡ 4 → (four : Tile → Run (List Tile)) → FindsChildren four family
-      → rustDescend four turns x y z zoom ≡ returns (descendants family (given zoom (z + 1) - z) x y z)
+      → rustDescend four turns x y z zoom ≡ returns (descendants family (unwrapOr zoom (z + 1) - z) x y z)
   descended family f e four g =
       let l : z + 1 < 2 ^ 8 = omega (arith, on-map .zoom) in
-      rw (fits 8 (z + 1) l, new-made x y z on-map) (queue-all family f e four g (given zoom (z + 1)) target x y z on-map turns enough)
+      rw (fits 8 (z + 1) l, new-made x y z on-map) (queue-all family f e four g (unwrapOr zoom (z + 1)) target x y z on-map turns enough)
 
-  pub rust-children : rustChildren turns x y z zoom ≡ returns (descendants clockwise (given zoom (z + 1) - z) x y z)
+  pub rust-children : rustChildren turns x y z zoom ≡ returns (descendants clockwise (unwrapOr zoom (z + 1) - z) x y z)
   rust-children = descended clockwise clockwise-is-a-family refl rustClockwise rust-clockwise
 
-  pub rust-children-zorder : rustChildrenZOrder turns x y z zoom ≡ returns (descendants zOrder (given zoom (z + 1) - z) x y z)
+  pub rust-children-zorder : rustChildrenZOrder turns x y z zoom ≡ returns (descendants zOrder (unwrapOr zoom (z + 1) - z) x y z)
   rust-children-zorder = descended zOrder z-order-is-a-family refl rustZOrder rust-z-order
 
 -- `children1_zorder`: the four tiles that the Rust names

@@ -9,21 +9,21 @@ ghost use Prim.Native.Nat.{_+_, _-_, _^_, _<_, _≤_};
 ghost use lib.ListN.{length};
 ghost use Rattle.constants.specs.Limits.{maxZoom};
 ghost use Rattle.errors.specs.Cases.{left};
-ghost use Rattle.tile.specs.Given.{given};
+ghost use Rattle.tile.specs.Option.{unwrapOr};
 ghost use Rattle.tile.specs.OnMap.{OnMap};
 ghost use Rattle.children.specs.Children.{clockwise, zOrder, familyOf, descendants, childrenOf};
 ghost use Rattle.ids.specs.Entry.{entriesOf};
 
 // Each family clockwise: the digits 0, 1, 3, 2. A target zoom of z or less gives the tile itself; None is z + 1.
 pub fn children(x: u32, y: u32, z: u8, zoom: OptionU8, out: &mut [u64]) -> Count
-    ensures { λ r. ⌜ left r (now (out .exit)) ≡ childrenOf clockwise x y z (given zoom (z + 1)) (now (out .entry)) ⌝ }
+    ensures { λ r. ⌜ left r (now (out .exit)) ≡ childrenOf clockwise x y z (unwrapOr zoom (z + 1)) (now (out .entry)) ⌝ }
 {
     descend(1, x, y, z, zoom, out)
 }
 
 // The same as `children`, each family by digits 0, 1, 2, 3.
 pub fn children_zorder(x: u32, y: u32, z: u8, zoom: OptionU8, out: &mut [u64]) -> Count
-    ensures { λ r. ⌜ left r (now (out .exit)) ≡ childrenOf zOrder x y z (given zoom (z + 1)) (now (out .entry)) ⌝ }
+    ensures { λ r. ⌜ left r (now (out .exit)) ≡ childrenOf zOrder x y z (unwrapOr zoom (z + 1)) (now (out .entry)) ⌝ }
 {
     descend(0, x, y, z, zoom, out)
 }
@@ -37,7 +37,7 @@ pub fn children1_zorder(x: u32, y: u32, z: u8, out: &mut [u64]) -> Count
 
 fn descend(turn: u32, x: u32, y: u32, z: u8, zoom: OptionU8, out: &mut [u64]) -> Count
     requires { ⌜ turn < 2 ⌝ }
-    ensures { λ r. ⌜ left r (now (out .exit)) ≡ childrenOf (familyOf turn) x y z (given zoom (z + 1)) (now (out .entry)) ⌝ }
+    ensures { λ r. ⌜ left r (now (out .exit)) ≡ childrenOf (familyOf turn) x y z (unwrapOr zoom (z + 1)) (now (out .entry)) ⌝ }
 {
     if z > MAX_ZOOM {
         return Count::Refused(Refusal::Zoom);

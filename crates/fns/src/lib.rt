@@ -9,7 +9,7 @@ use tile::TileAnswer;
 ghost use mathlib.Core.Path.{_≡_};
 ghost use Prim.Native.Nat.{_+_, _/_, _^_, _<_};
 ghost use Rattle.errors.specs.Cases.{u32Case};
-ghost use Rattle.tile.specs.Given.{given};
+ghost use Rattle.tile.specs.Option.{unwrapOr};
 ghost use Rattle.tile.specs.OnMap.{tileCase};
 ghost use Rattle.fns.specs.Fns.{minMaxCase, minMaxOf, isTile, flipyOf, parentOf, differ, bbox2zoomOf};
 
@@ -66,7 +66,7 @@ pub fn yflip(y: u32, z: u8) -> U32Answer
 
 // The ancestor 1 + n zooms up; n is extra steps, and no zoom.
 pub fn parent(x: u32, y: u32, z: u8, n: OptionU8) -> TileAnswer
-    ensures { λ r. ⌜ tileCase r ≡ parentOf x y z (given n 0) ⌝ }
+    ensures { λ r. ⌜ tileCase r ≡ parentOf x y z (unwrapOr n 0) ⌝ }
 {
     if let Check::Refused(why) = tile::check(x, y, z) {
         return TileAnswer::Refused(why);

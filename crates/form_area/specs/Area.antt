@@ -48,13 +48,13 @@ operated Both = commonOf
 operated Minus = differenceOf
 
 -- what a call gives where nothing was refused before it
-abbrev pub given : ℕ → Lent ℕ → Answer (List ℕ)
-given refusal r = answer (refusal else r .number) [] (answerOf r)
+abbrev pub areaGiven : ℕ → Lent ℕ → Answer (List ℕ)
+areaGiven refusal r = answer (refusal else r .number) [] (answerOf r)
 
 -- "`tiles` settles at 0"; "then the left operand before the right", each whole, and then the operation
 unfoldable pub formArea : Form → Answer (List ℕ)
-formArea (tiles runs) = given (keysRefusal runs) (simplifyOf (runEntries runs) 0 places)
-formArea (pair verb f g) = given (formArea f .number else formArea g .number) (operated verb (formArea f .value) (formArea g .value) places)
+formArea (tiles runs) = areaGiven (keysRefusal runs) (simplifyOf (runEntries runs) 0 places)
+formArea (pair verb f g) = areaGiven (formArea f .number else formArea g .number) (operated verb (formArea f .value) (formArea g .value) places)
 
 -- the area of the form that was read; 15 where none was
 abbrev pub readArea : {line : List ℕ} → Dec ((f : Form) × Reads line f) → Answer (List ℕ)

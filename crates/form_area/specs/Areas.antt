@@ -23,7 +23,7 @@ use Rattle.form.specs.Front.{FormFirst, KeysFirst, PairFirst}
 use Rattle.form.specs.Once.{one-form}
 use Rattle.form.specs.declared.End.the-variants.{At, Nowhere}
 use Rattle.form.specs.declared.Verb.{Verb}
-use Rattle.form_area.specs.Area.{isDash, keyOfRun, keysRefusal, keyEntry, runEntries, places, operated, given, formArea}
+use Rattle.form_area.specs.Area.{isDash, keyOfRun, keysRefusal, keyEntry, runEntries, places, operated, areaGiven, formArea}
 use Rattle.form_area.specs.Calls.{valued, simplify-alike, call-valued, operated-gives, operated-alike}
 use Rattle.ids.specs.Entry.{isEntry, entry-accepted, entry-tile-again}
 use Rattle.merge.specs.Gives.{simplify-gives}
@@ -71,9 +71,9 @@ module _ (runs : List (List ℕ)) where
   bad-key-area why exit e = refused-given why exit _ _ (refused-first why _ _ e)
 
   module _ (fine : keysRefusal runs ≡ 0) where
-    tiles-area : formArea (tiles runs) ≡ given 0 (simplifyOf (runEntries runs) 0 places)
+    tiles-area : formArea (tiles runs) ≡ areaGiven 0 (simplifyOf (runEntries runs) 0 places)
     unfolding formArea
-    tiles-area = ap (λ (n : ℕ). given n (simplifyOf (runEntries runs) 0 places)) fine
+    tiles-area = ap (λ (n : ℕ). areaGiven n (simplifyOf (runEntries runs) 0 places)) fine
 
     pub settled-area : (r : Count) (exit memory : List ℕ) → left r exit ≡ simplifyOf (runEntries runs) 0 memory → length memory ≡ formPlaces
         → valued r exit ≡ formArea (tiles runs)

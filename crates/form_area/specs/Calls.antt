@@ -10,7 +10,7 @@ use Rattle.errors.specs.Gives.{answerOf, Gives, lent-gives}
 use Rattle.errors.specs.declared.Count.{Count}
 use Rattle.form.specs.declared.Verb.{Verb}
 use Rattle.form.specs.declared.Verb.the-variants.{Plus, Both, Minus}
-use Rattle.form_area.specs.Area.{operated, given}
+use Rattle.form_area.specs.Area.{operated, areaGiven}
 use Rattle.merge.specs.Gives.{simplify-gives}
 use Rattle.merge.specs.Merge.{simplifyOf}
 use Rattle.tile_list.specs.Gives.{listed-gives}
@@ -26,11 +26,11 @@ abbrev pub Within : Count → List ℕ → Type 0
 Within r memory = countCase r .value ≤ length memory
 
 -- two calls that give the same, after the same refusals before them
-same-given : (refusal : ℕ) (r s : Lent ℕ) (n : ℕ) (items : List ℕ) → Gives r n items → Gives s n items → given refusal r ≡ given refusal s
+same-given : (refusal : ℕ) (r s : Lent ℕ) (n : ℕ) (items : List ℕ) → Gives r n items → Gives s n items → areaGiven refusal r ≡ areaGiven refusal s
 same-given refusal r s n items a b =
     ap₂ (λ (k : ℕ) (l : List ℕ). answer (refusal else k) [] l) (a .number ∙ sym (b .number)) (a .front ∙ sym (b .front))
 
-pub given-items : (r : Lent ℕ) (n : ℕ) (items : List ℕ) → Gives r n items → given 0 r ≡ answer n [] items
+pub given-items : (r : Lent ℕ) (n : ℕ) (items : List ℕ) → Gives r n items → areaGiven 0 r ≡ answer n [] items
 given-items r n items a = ap₂ (λ (k : ℕ) (l : List ℕ). answer k [] l) (a .number) (a .front) ∙ twice n items
   where
     twice : (n : ℕ) (items : List ℕ) → answer n [] (answer n [] items .value) ≡ answer n [] items
@@ -42,7 +42,7 @@ module _ (r : Count) (exit : List ℕ) (c : Lent ℕ) (e : left r exit ≡ c) (n
   pub call-within : Within r exit
   call-within = rw (ap (λ (l : Lent ℕ). l .value) e, ap (λ (l : Lent ℕ). l .memory) e) (a .within)
 
-  pub call-valued : valued r exit ≡ given 0 c
+  pub call-valued : valued r exit ≡ areaGiven 0 c
   call-valued =
       ap₂ (λ (k : ℕ) (l : List ℕ). record { number = k; value = l }) (ap (λ (l : Lent ℕ). l .number) e ∙ a .number) (ap answerOf e ∙ a .front)
       ∙ (parts n items ∙ sym (given-items c n items a))
@@ -68,7 +68,7 @@ operated-gives Both a b memory = listed-gives (pairPlacesRefusal a b memory) (a 
 operated-gives Minus a b memory = lent-gives (pairRefusal a b else short (differenceEntries a b) memory) (differenceEntries a b) memory
 
 -- memory of the same length is refused alike
-pub simplify-alike : (list m k : List ℕ) → length m ≡ length k → given 0 (simplifyOf list 0 m) ≡ given 0 (simplifyOf list 0 k)
+pub simplify-alike : (list m k : List ℕ) → length m ≡ length k → areaGiven 0 (simplifyOf list 0 m) ≡ areaGiven 0 (simplifyOf list 0 k)
 unfolding placesRefusal
 simplify-alike list m k e =
     let f : placesRefusal list m ≡ placesRefusal list k = rw e in
@@ -82,7 +82,7 @@ refused-alike Plus a b m k e = rw e
 refused-alike Both a b m k e = rw e
 refused-alike Minus a b m k e = rw e
 
-pub operated-alike : (verb : Verb) (a b m k : List ℕ) → length m ≡ length k → given 0 (operated verb a b m) ≡ given 0 (operated verb a b k)
+pub operated-alike : (verb : Verb) (a b m k : List ℕ) → length m ≡ length k → areaGiven 0 (operated verb a b m) ≡ areaGiven 0 (operated verb a b k)
 operated-alike verb a b m k e =
     same-given 0 (operated verb a b m) (operated verb a b k) (operatedRefusal verb a b k) (operatedEntries verb a b)
     (subst (λ (n : ℕ). Gives (operated verb a b m) n (operatedEntries verb a b)) (refused-alike verb a b m k e)

@@ -11,11 +11,11 @@ use Rattle.errors.specs.Answer.{Answer, answer, Lent, _when_, _else_}
 use Rattle.errors.specs.Gives.{answerOf}
 use Rattle.form.specs.Form.{Form, tiles, pair, Reads, tooDeep}
 use Rattle.form.specs.Reading.{reading, one-reading, isReading, wholeRefusal, lineRefusal}
-use Rattle.form_area.specs.Area.{keysRefusal, runEntries, places, operated, given, formArea, readArea, lineArea}
+use Rattle.form_area.specs.Area.{keysRefusal, runEntries, places, operated, areaGiven, formArea, readArea, lineArea}
 use Rattle.merge.specs.Merge.{simplifyOf}
 
 -- a refused answer has no list
-given-again : (n : ℕ) (r : Lent ℕ) → answer (given n r .number) [] (given n r .value) ≡ given n r
+given-again : (n : ℕ) (r : Lent ℕ) → answer (areaGiven n r .number) [] (areaGiven n r .value) ≡ areaGiven n r
 given-again n r = go (n else r .number) (answerOf r)
   where
     go : (n : ℕ) (items : List ℕ) → answer (answer n [] items .number) [] (answer n [] items .value) ≡ answer n [] items

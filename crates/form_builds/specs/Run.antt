@@ -13,7 +13,7 @@ use Rattle.errors.specs.Laws.{else-zero}
 use Rattle.form.specs.Form.{Form, tiles, pair}
 use Rattle.form.specs.declared.Verb.{Verb}
 use Rattle.form.specs.declared.Verb.the-variants.{Plus, Both, Minus}
-use Rattle.form_area.specs.Area.{keysRefusal, runEntries, places, operated, given, formArea}
+use Rattle.form_area.specs.Area.{keysRefusal, runEntries, places, operated, areaGiven, formArea}
 use Rattle.form_builds.specs.Calls.{operation, call, size, last, calls}
 use Rattle.merge.specs.Merge.{simplifyOf}
 
@@ -44,7 +44,7 @@ pub record Gave (rs : List (Lent ℕ)) (i : ℕ) (list : List ℕ) : Type 0 wher
   pub number : back rs i .number ≡ 0
   pub list-given : answerOf (back rs i) ≡ list
 
-pub given-zero : (n : ℕ) (r : Lent ℕ) → given n r .number ≡ 0 → (n ≡ 0) × (r .number ≡ 0) × (given n r .value ≡ answerOf r)
+pub given-zero : (n : ℕ) (r : Lent ℕ) → areaGiven n r .number ≡ 0 → (n ≡ 0) × (r .number ≡ 0) × (areaGiven n r .value ≡ answerOf r)
 given-zero n r e = go n (r .number) (answerOf r) e
   where
     go : (n m : ℕ) (items : List ℕ) → answer (n else m) [] items .number ≡ 0 → (n ≡ 0) × (m ≡ 0) × (answer (n else m) [] items .value ≡ items)

@@ -21,7 +21,7 @@ use Rattle.form.specs.Form.{Form, tiles, pair, Reads, tooDeep}
 use Rattle.form.specs.Reading.{reading}
 use Rattle.form.specs.declared.Verb.{Verb}
 use Rattle.form.specs.declared.Verb.the-variants.{Plus, Both, Minus}
-use Rattle.form_area.specs.Area.{formArea, given, keysRefusal, operated, places, readArea, lineArea, runEntries}
+use Rattle.form_area.specs.Area.{formArea, areaGiven, keysRefusal, operated, places, readArea, lineArea, runEntries}
 use Rattle.form_area.specs.Calls.{operated-gives}
 use Rattle.ground.specs.Floor.{settled-list-least-from}
 use Rattle.ground.specs.Ground.{settledList}
@@ -69,7 +69,7 @@ when-zero n false e = refl
 room : (n : ℕ) → 12 when ltb (length places) n ≡ 0 → n ≤ formPlaces
 room n e = omega (arith, ltb-false (length places) n (when-zero 11 (ltb (length places) n) e), length-replicate {A = ℕ} formPlaces 0)
 
-given-fits : (refusal n : ℕ) (r : Lent ℕ) (items : List ℕ) → Gives r n items → (n ≡ 0 → Fits items) → Fits (given refusal r .value)
+given-fits : (refusal n : ℕ) (r : Lent ℕ) (items : List ℕ) → Gives r n items → (n ≡ 0 → Fits items) → Fits (areaGiven refusal r .value)
 given-fits zero zero r items g f = rw (g .number, g .front) (f refl)
 given-fits zero (suc n) r items g f = rw (g .number) none-fits
 given-fits (suc m) n r items g f = none-fits
@@ -112,7 +112,7 @@ module _ (a b : List ℕ) (f : Fits a) (g : Fits b) where
   difference-fits : (n : ℕ) → n else short (differenceEntries a b) places ≡ 0 → Fits (differenceEntries a b)
   difference-fits n e = settled-fits (λ X Y. groundOf a X Y && not (groundOf b X Y)) (room (length (differenceEntries a b)) (else-zero n _ e .1))
 
-  operated-fits : (refusal : ℕ) (verb : Verb) → Fits (given refusal (operated verb a b places) .value)
+  operated-fits : (refusal : ℕ) (verb : Verb) → Fits (areaGiven refusal (operated verb a b places) .value)
   operated-fits refusal Plus = given-fits refusal _ _ (unionEntries a b) (operated-gives Plus a b places) union-fits
   operated-fits refusal Both = given-fits refusal _ _ (commonEntries a b) (operated-gives Both a b places) common-fits
   operated-fits refusal Minus =

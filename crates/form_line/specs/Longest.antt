@@ -15,7 +15,7 @@ use Rattle.form.specs.Form.{Form, tiles, pair, Reads, tooDeep}
 use Rattle.form.specs.Reading.{reading}
 use Rattle.form.specs.declared.Verb.{Verb}
 use Rattle.form.specs.declared.Verb.the-variants.{Plus, Both, Minus}
-use Rattle.form_area.specs.Area.{keyOfRun, keysRefusal, runEntries, places, operated, given, formArea, readArea, lineArea}
+use Rattle.form_area.specs.Area.{keyOfRun, keysRefusal, runEntries, places, operated, areaGiven, formArea, readArea, lineArea}
 use Rattle.form_area.specs.Calls.{operated-gives}
 use Rattle.form_line.specs.Decimal.{decimal-short}
 use Rattle.form_line.specs.Few.{Fits, line-fits}
@@ -44,7 +44,7 @@ answer-number : {A : Type 0} (n : ℕ) (none v : A) → answer n none v .number 
 answer-number zero none v = refl
 answer-number (suc n) none v = refl
 
-given-number : (refusal n : ℕ) (r : Lent ℕ) (items : List ℕ) → Gives r n items → IsNumber refusal → IsNumber n → IsNumber (given refusal r .number)
+given-number : (refusal n : ℕ) (r : Lent ℕ) (items : List ℕ) → Gives r n items → IsNumber refusal → IsNumber n → IsNumber (areaGiven refusal r .number)
 given-number refusal n r items g h k =
     omega (arith, answer-number (refusal else r .number) [] (answerOf r), else-number refusal (r .number) h (omega (arith, g .number, k)))
 
@@ -84,7 +84,7 @@ pair-places-number : (a b : List ℕ) → IsNumber (pairPlacesRefusal a b places
 unfolding pairPlacesRefusal
 pair-places-number a b = else-number (pairRefusal a b) (12 when ltb (length places) (length a + length b)) (pair-number a b) (room-number (length a + length b))
 
-operated-number : (refusal : ℕ) → IsNumber refusal → (verb : Verb) (a b : List ℕ) → IsNumber (given refusal (operated verb a b places) .number)
+operated-number : (refusal : ℕ) → IsNumber refusal → (verb : Verb) (a b : List ℕ) → IsNumber (areaGiven refusal (operated verb a b places) .number)
 operated-number refusal h Plus a b =
     given-number refusal (pairPlacesRefusal a b places) _ (unionEntries a b) (operated-gives Plus a b places) h (pair-places-number a b)
 operated-number refusal h Both a b =

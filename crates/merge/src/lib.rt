@@ -11,7 +11,7 @@ ghost use Rattle.constants.specs.Limits.{maxEntries};
 ghost use Rattle.errors.specs.Cases.{countCase, left};
 ghost use Rattle.merge.specs.Merge.{mergedLeft, countOf, mergeOf, simplifyV1Of, simplifyOf, workOf, sortedBy, Worked};
 ghost use Rattle.quadtree.specs.Lists.{sortKey, TileNumbers};
-ghost use Rattle.tile.specs.Given.{given};
+ghost use Rattle.tile.specs.Option.{unwrapOr};
 
 // How many entries the answer has, and whether four siblings became their parent anywhere.
 pub struct Merged {
@@ -26,7 +26,7 @@ pub enum MergeAnswer {
 
 // One pass: tiles of zoom above the minimum in groups of four siblings become the parent.
 pub fn merge(list: &[u64], minzoom: OptionU8, out: &mut [u64]) -> MergeAnswer
-    ensures { λ r. ⌜ mergedLeft r (now (out .exit)) ≡ mergeOf (now (list .entry)) (given minzoom 0) (now (out .entry)) ⌝ }
+    ensures { λ r. ⌜ mergedLeft r (now (out .exit)) ≡ mergeOf (now (list .entry)) (unwrapOr minzoom 0) (now (out .entry)) ⌝ }
 {
     let m = minzoom.unwrap_or(0);
     run(list, Work::Merge, 2, m, out)
@@ -35,7 +35,7 @@ pub fn merge(list: &[u64], minzoom: OptionU8, out: &mut [u64]) -> MergeAnswer
 // A tile of a zoom z above the minimum m is dropped where the list holds an ancestor of it of zoom z - 1 - m or less; then passes of
 // merging until nothing changes.
 pub fn simplify_v1(list: &[u64], minzoom: OptionU8, out: &mut [u64]) -> Count
-    ensures { λ r. ⌜ left r (now (out .exit)) ≡ simplifyV1Of (now (list .entry)) (given minzoom 0) (now (out .entry)) ⌝ }
+    ensures { λ r. ⌜ left r (now (out .exit)) ≡ simplifyV1Of (now (list .entry)) (unwrapOr minzoom 0) (now (out .entry)) ⌝ }
 {
     let m = minzoom.unwrap_or(0);
     counted(run(list, Work::SimplifyV1, 2, m, out))
@@ -45,7 +45,7 @@ pub fn simplify_v1(list: &[u64], minzoom: OptionU8, out: &mut [u64]) -> Count
 // is left. At minimum zoom 0 the answer is settled. What it is above that, where no tile listed has a lesser zoom, the crate `floor`
 // shows.
 pub fn simplify(list: &[u64], minzoom: OptionU8, out: &mut [u64]) -> Count
-    ensures { λ r. ⌜ left r (now (out .exit)) ≡ simplifyOf (now (list .entry)) (given minzoom 0) (now (out .entry)) ⌝ }
+    ensures { λ r. ⌜ left r (now (out .exit)) ≡ simplifyOf (now (list .entry)) (unwrapOr minzoom 0) (now (out .entry)) ⌝ }
 {
     let m = minzoom.unwrap_or(0);
     counted(run(list, Work::Simplify, 2, m, out))

@@ -3,7 +3,7 @@
 ghost use mathlib.Core.Path.{_≡_};
 ghost use Rattle.c_give.specs.Exported.{answered};
 ghost use Rattle.c_parent.specs.Cursor.{heldAt, holding, nextAt, nextNumbers, parentsNumbers};
-ghost use Rattle.parent.specs.Parents.{iterOf, nextOf};
+ghost use Rattle.parent.specs.Parents.{iterOf, parentsNextOf};
 
 // The cursor that starts at the parent of a tile; at its end for the root.
 // Refused: 1, 2.
@@ -41,7 +41,7 @@ pub extern "C" fn nori_parents_next(
     rz: &mut u8,
 ) -> u8
     ensures { λ r. ⌜ answered r (nextAt (heldAt (now (count .exit)) (now (tx .exit)) (now (ty .exit)) (now (tz .exit)))
-        (heldAt (now (rest .exit)) (now (rx .exit)) (now (ry .exit)) (now (rz .exit)))) ≡ nextNumbers (nextOf (holding held x y z)) ⌝ }
+        (heldAt (now (rest .exit)) (now (rx .exit)) (now (ry .exit)) (now (rz .exit)))) ≡ nextNumbers (parentsNextOf (holding held x y z)) ⌝ }
 {
     c_parent::next(held, x, y, z, count, tx, ty, tz, rest, rx, ry, rz)
 }

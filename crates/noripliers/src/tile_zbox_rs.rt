@@ -4,7 +4,7 @@ ghost use Rattle.c_give.specs.Exported.{answered, asByte, given};
 ghost use Rattle.c_zbox_iter.specs.Step.{boxesStepNumbers, stepAt, stepNumbers};
 ghost use Rattle.tile.specs.OnMap.{tileAt};
 ghost use Rattle.tile_zbox_around.specs.Around.{fromTilesOf};
-ghost use Rattle.tile_zbox.specs.Box.{boxAt, boxRefusal, containsOf, dimensionsOf, dxOf, dxdyOf, dyOf, extentAt, flipOf, fromTileOf};
+ghost use Rattle.tile_zbox.specs.Box.{boxAt, boxRefusal, containsOf, dimensionsOf, dxOf, dxdyOf, dyOf, extentAt, boxFlipOf, fromTileOf};
 ghost use Rattle.tile_zbox.specs.Box.{lengthOf, newOf, zoomDepthOf, zoomInOf};
 ghost use Rattle.tile_zbox_numbers.specs.Boxes.{boxesFlipOf, numbersLengthOf};
 ghost use Rattle.tile_zbox_iter.specs.Cursor.{cursorAt, nextOf, sizeHintOf};
@@ -110,7 +110,7 @@ pub extern "C" fn nori_zbox_flipy(
     bottom: &mut u32,
 ) -> u8
     ensures { λ r. ⌜ answered r (boxAt (now (bz .exit)) (now (left .exit)) (now (right .exit)) (now (top .exit)) (now (bottom .exit)))
-        ≡ flipOf (boxAt zoom minx maxx miny maxy) ⌝ }
+        ≡ boxFlipOf (boxAt zoom minx maxx miny maxy) ⌝ }
 {
     c_zbox::flipy(zoom, minx, maxx, miny, maxy, bz, left, right, top, bottom)
 }

@@ -27,14 +27,14 @@ parentsCase (parents.Refused why) = refusedAs why (parentsAt None)
 abbrev pub iterOf : ℕ → ℕ → ℕ → Answer Parents
 iterOf x y z = answer (tileRefusal x y z) (parentsAt None) (parentsAt (aboveOf x y z))
 
-abbrev pub given : OptionTile → OptionTile → Next
-given t rest = record { tile = t; rest = parentsAt rest }
+abbrev pub nextGiven : OptionTile → OptionTile → Next
+nextGiven t rest = record { tile = t; rest = parentsAt rest }
 
-abbrev pub nextCase : NextAnswer → Answer Next
-nextCase (next.Found n) = record { number = 0; value = n }
-nextCase (next.Refused why) = refusedAs why (given None None)
+abbrev pub parentsNextCase : NextAnswer → Answer Next
+parentsNextCase (next.Found n) = record { number = 0; value = n }
+parentsNextCase (next.Refused why) = refusedAs why (nextGiven None None)
 
 -- a cursor at its end gives nothing and stays there
-abbrev pub nextOf : OptionTile → Answer Next
-nextOf None = answer 0 (given None None) (given None None)
-nextOf (Some t) = answer (tileRefusal (t .x) (t .y) (t .z)) (given None None) (given (Some t) (aboveOf (t .x) (t .y) (t .z)))
+abbrev pub parentsNextOf : OptionTile → Answer Next
+parentsNextOf None = answer 0 (nextGiven None None) (nextGiven None None)
+parentsNextOf (Some t) = answer (tileRefusal (t .x) (t .y) (t .z)) (nextGiven None None) (nextGiven (Some t) (aboveOf (t .x) (t .y) (t .z)))

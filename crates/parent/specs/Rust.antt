@@ -6,7 +6,7 @@ use Rattle.errors.specs.Answer.{Answer}
 use Rattle.fns.specs.Rust.{rustParent}
 use Rattle.tile.specs.Rust.{To29, accepted}
 use Rattle.tile.specs.declared.Tile.{Tile}
-use Rattle.parent.specs.Parents.{parentsAt, given}
+use Rattle.parent.specs.Parents.{parentsAt, nextGiven}
 use Rattle.parent.specs.declared.OptionTile.{OptionTile}
 use Rattle.parent.specs.declared.OptionTile.the-variants.{None, Some}
 use Rattle.parent.specs.declared.Parents.{Parents}
@@ -29,7 +29,7 @@ abbrev pub asParents : Option Tile → Answer Parents
 asParents current = accepted (parentsAt (optionTile current))
 
 abbrev pub asNext : Option Tile × Option Tile → Answer Next
-asNext r = accepted (given (optionTile (r .0)) (optionTile (r .1)))
+asNext r = accepted (nextGiven (optionTile (r .0)) (optionTile (r .1)))
 
 -- a cursor that has ended, or is at a tile of zoom 0 to 29
 pub data CursorTo29 : Option Tile → Type 0 where

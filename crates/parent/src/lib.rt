@@ -6,7 +6,7 @@ use tile::Tile;
 use tile::TileAnswer;
 ghost use mathlib.Core.Path.{_≡_};
 ghost use Rattle.tile.specs.OnMap.{OnMap};
-ghost use Rattle.parent.specs.Parents.{aboveOf, parentsCase, iterOf, nextCase, nextOf};
+ghost use Rattle.parent.specs.Parents.{aboveOf, parentsCase, iterOf, parentsNextCase, parentsNextOf};
 
 pub enum OptionTile {
     None,
@@ -49,7 +49,7 @@ pub fn iter_parents(x: u32, y: u32, z: u8) -> ParentsAnswer
 impl Parents {
     // What the cursor gives, a tile or nothing, and the cursor after it.
     pub fn next(self) -> NextAnswer
-        ensures { λ r. ⌜ nextCase r ≡ nextOf (self .current) ⌝ }
+        ensures { λ r. ⌜ parentsNextCase r ≡ parentsNextOf (self .current) ⌝ }
     {
         let current = self.current;
         match current {
@@ -65,7 +65,7 @@ impl Parents {
 
 // A cursor's tile and what comes after it: the caller may have put any numbers there, so they are checked.
 fn after(t: Tile) -> NextAnswer
-    ensures { λ r. ⌜ nextCase r ≡ nextOf (OptionTile.Some t) ⌝ }
+    ensures { λ r. ⌜ parentsNextCase r ≡ parentsNextOf (OptionTile.Some t) ⌝ }
 {
     match tile::check(t.x, t.y, t.z) {
         Check::Fine => {

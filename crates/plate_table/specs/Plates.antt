@@ -16,7 +16,7 @@ use Rattle.neighbors.specs.Neighbors.{siblingsWritten, neighborsWritten}
 use Rattle.plate_table.specs.Kept.{answers, both-accepted, none-accepted, v1-keeps-both, simplify-keeps-one, empty-settles}
 use Rattle.plate_table.specs.Rows.{Row, row, key, entriesOfKeys, accepted, refused, keeps, ranges}
 use Rattle.quadkey.specs.Key.{keyFrom, keyWritten, allDigits, keyRefusal, spelled}
-use Rattle.tile.specs.Given.{given}
+use Rattle.tile.specs.Option.{unwrapOr}
 use Rattle.tile.specs.OnMap.{tileAt, noTile, tileRefusal}
 use Rattle.tile.specs.declared.OptionU8.the-variants.{None, Some}
 use Rattle.tile_zbox.specs.Box.{boxAt, boxRefusal, wrongEdges, boxLength, lengthOf}
@@ -51,21 +51,21 @@ table rmid-64 = row "† (3,5,3): rmid 64" (toRmidOf 3 5 3) (accepted 64)
 table root-key = row "† Root: empty key" (keyWritten 48 0 0 0) (written 0 (key ""))
 table root-id = row "† Root: id 0" (toIdOf 0 0 0) (accepted 0)
 table root-rmid = row "† Root: rmid 0" (toRmidOf 0 0 0) (accepted 0)
-table parent = row "† parent of (3,5,3): (1,2,2)" (parentOf 3 5 3 (given None 0)) (accepted (tileAt 1 2 2))
-table parent-2 = row "parent of (3,5,3), n = 2: the root" (parentOf 3 5 3 (given (Some 2) 0)) (accepted (tileAt 0 0 0))
-table parent-3 = row "† parent of (3,5,3), n = 3: refusal 3" (parentOf 3 5 3 (given (Some 3) 0)) (refused 3 noTile)
+table parent = row "† parent of (3,5,3): (1,2,2)" (parentOf 3 5 3 (unwrapOr None 0)) (accepted (tileAt 1 2 2))
+table parent-2 = row "parent of (3,5,3), n = 2: the root" (parentOf 3 5 3 (unwrapOr (Some 2) 0)) (accepted (tileAt 0 0 0))
+table parent-3 = row "† parent of (3,5,3), n = 3: refusal 3" (parentOf 3 5 3 (unwrapOr (Some 3) 0)) (refused 3 noTile)
 table siblings =
     row "† siblings of (3,5,3): (2,5), (3,4), (2,4)" (siblingsWritten 3 5 3) (written 0 (entriesOf (tileAt 2 5 3 ∷ tileAt 3 4 3 ∷ tileAt 2 4 3 ∷ [])))
 table neighbours =
     row "† neighbours of (3,0,2): (3,1), (2,0), (2,1)" (neighborsWritten false 3 0 2)
     (written 0 (entriesOf (tileAt 3 1 2 ∷ tileAt 2 0 2 ∷ tileAt 2 1 2 ∷ [])))
 table kept-by-v1 =
-    row "† keys 0, 00 at m = 1: `simplify_v1` keeps both" (simplifyV1Of (entriesOfKeys ("0" ∷ "00" ∷ [])) (given (Some 1) 0))
+    row "† keys 0, 00 at m = 1: `simplify_v1` keeps both" (simplifyV1Of (entriesOfKeys ("0" ∷ "00" ∷ [])) (unwrapOr (Some 1) 0))
     (keeps (entriesOfKeys ("0" ∷ "00" ∷ [])) (entriesOfKeys ("0" ∷ "00" ∷ [])))
 table kept-by-simplify =
-    row "† keys 0, 00 at m = 1: `simplify` keeps 0" (simplifyOf (entriesOfKeys ("0" ∷ "00" ∷ [])) (given (Some 1) 0))
+    row "† keys 0, 00 at m = 1: `simplify` keeps 0" (simplifyOf (entriesOfKeys ("0" ∷ "00" ∷ [])) (unwrapOr (Some 1) 0))
     (keeps (entriesOfKeys ("0" ∷ "00" ∷ [])) (entriesOfKeys ("0" ∷ [])))
-table empty-list = row "† The empty list settles to itself" (simplifyOf [] (given None 0)) (keeps [] [])
+table empty-list = row "† The empty list settles to itself" (simplifyOf [] (unwrapOr None 0)) (keeps [] [])
 table whole-zoom = row "† Box of all zoom 16: 4294967296" (lengthOf (boxAt 16 0 (2 ^ 16 - 1) 0 (2 ^ 16 - 1))) (accepted 4294967296)
 table set-33 = row "† Zooms 0, 5: set 33" (zvecSet (0 ∷ 5 ∷ [])) (accepted 33)
 table turned-set = row "Set with bits 31 and 30: zoom 0" (written 0 (zoomsOf (2 ^ 31 + 2 ^ 30))) (written 0 (0 ∷ []))

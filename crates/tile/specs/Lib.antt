@@ -1,4 +1,4 @@
-pub mod Given
+pub mod Option
 pub mod OnMap
 pub mod Order
 pub mod Rust

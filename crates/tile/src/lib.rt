@@ -6,7 +6,7 @@ use errors::U32Answer;
 ghost use mathlib.Core.Path.{_≡_};
 ghost use Prim.Native.Nat.{_<_};
 ghost use Rattle.errors.specs.Cases.{checkNumber, u32Case};
-ghost use Rattle.tile.specs.Given.{given};
+ghost use Rattle.tile.specs.Option.{unwrapOr};
 ghost use Rattle.tile.specs.OnMap.{tileRefusal, tileCase, sideOf, tryNew};
 ghost use Rattle.tile.specs.Order.{byNumber, tileOrder};
 ghost use Rattle.tile.specs.Steps.{flipOf, stepOf, steppedTo, placedAt};
@@ -34,7 +34,7 @@ pub enum OptionU8 {
 impl OptionU8 {
     // The byte, or else the one that is named for none.
     pub fn unwrap_or(self, other: u8) -> u8
-        ensures { λ r. ⌜ r ≡ given self other ⌝ }
+        ensures { λ r. ⌜ r ≡ unwrapOr self other ⌝ }
     {
         match self {
             OptionU8::None => other,

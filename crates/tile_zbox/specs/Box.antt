@@ -64,14 +64,14 @@ tileBox x y z = boxAt z x x y y
 abbrev pub fromTileOf : ℕ → ℕ → ℕ → Answer TileZBox
 fromTileOf x y z = answer (tileRefusal x y z) noBox (tileBox x y z)
 
-abbrev pub inRun : ℕ → ℕ → ℕ → Bool
-inRun n min max = leb min n && leb n max
+abbrev pub between : ℕ → ℕ → ℕ → Bool
+between n min max = leb min n && leb n max
 
 unfoldable pub inBox : TileZBox → ℕ → ℕ → ℕ → Bool
-inBox b x y z = eqb z (b .zoom) && (inRun x (b .minx) (b .maxx) && inRun y (b .miny) (b .maxy))
+inBox b x y z = eqb z (b .zoom) && (between x (b .minx) (b .maxx) && between y (b .miny) (b .maxy))
 
 -- a tile of the box, as a proposition
-pub record Holds (b : TileZBox) (t : Tile) : Type 0 where
+pub record HoldsTile (b : TileZBox) (t : Tile) : Type 0 where
   pub zoom : t .z ≡ b .zoom
   pub west : b .minx ≤ t .x
   pub east : t .x ≤ b .maxx
@@ -95,8 +95,8 @@ flipRow y z = 2 ^ z - 1 - y
 unfoldable pub flipped : TileZBox → TileZBox
 flipped b = boxAt (b .zoom) (b .minx) (b .maxx) (flipRow (b .maxy) (b .zoom)) (flipRow (b .miny) (b .zoom))
 
-abbrev pub flipOf : TileZBox → Answer TileZBox
-flipOf b = answer (boxRefusal b) noBox (flipped b)
+abbrev pub boxFlipOf : TileZBox → Answer TileZBox
+boxFlipOf b = answer (boxRefusal b) noBox (flipped b)
 
 -- one zoom deeper: each tile becomes its four children
 unfoldable pub zoomedIn : TileZBox → TileZBox

@@ -13,20 +13,20 @@ use Rattle.constants.specs.Limits.{maxZoom}
 use Rattle.errors.specs.Answer.{_when_, _else_}
 use Rattle.tile.specs.OnMap.{side-small}
 use Rattle.tile.specs.declared.Tile.{Tile}
-use Rattle.tile_zbox.specs.Box.{IsBox, wrongRun, wrongEdges, boxRefusal, inRun, inBox, Holds, zoomedIn, zoomedBy, columnsOf, rowsOf, boxLength}
+use Rattle.tile_zbox.specs.Box.{IsBox, wrongRun, wrongEdges, boxRefusal, between, inBox, HoldsTile, zoomedIn, zoomedBy, columnsOf, rowsOf, boxLength}
 use Rattle.tile_zbox.specs.declared.TileZBox.{TileZBox}
 
 -- of two tests neither holds
-pub neither : (a b : Bool) → (a || b) ≡ false → (a ≡ false) × (b ≡ false)
-neither true b e = let z : _≡_ {A = ℕ} 0 1 = cc in absurd (omega arith)
-neither false b e = (refl, e)
+pub neither-of-two : (a b : Bool) → (a || b) ≡ false → (a ≡ false) × (b ≡ false)
+neither-of-two true b e = let z : _≡_ {A = ℕ} 0 1 = cc in absurd (omega arith)
+neither-of-two false b e = (refl, e)
 
 -- a run of numbers below the end
 pub run-fine : {min max end : ℕ} → min ≤ max → max < end → wrongRun min max end ≡ false
 run-fine h k = rw (le-ltb _ _ h, lt-leb _ _ k)
 
 pub fine-run : (min max end : ℕ) → wrongRun min max end ≡ false → (min ≤ max) × (max < end)
-fine-run min max end e = let n = neither (ltb max min) (leb end max) e in (ltb-false _ _ (n .0), leb-false _ _ (n .1))
+fine-run min max end e = let n = neither-of-two (ltb max min) (leb end max) e in (ltb-false _ _ (n .0), leb-false _ _ (n .1))
 
 pub box-too-deep : (b : TileZBox) → maxZoom < b .zoom → boxRefusal b ≡ 1
 unfolding boxRefusal
@@ -39,7 +39,7 @@ edges-wrong b d e = rw (le-ltb _ _ d, e)
 pub edges-fine : (b : TileZBox) → b .zoom ≤ maxZoom → wrongEdges b ≡ false → IsBox b
 unfolding wrongEdges
 edges-fine b d e =
-    let n = neither (wrongRun (b .minx) (b .maxx) (2 ^ b .zoom)) (wrongRun (b .miny) (b .maxy) (2 ^ b .zoom)) e in
+    let n = neither-of-two (wrongRun (b .minx) (b .maxx) (2 ^ b .zoom)) (wrongRun (b .miny) (b .maxy) (2 ^ b .zoom)) e in
     let x = fine-run _ _ _ (n .0) in
     let y = fine-run _ _ _ (n .1) in
     record { zoom = d; columns = x .0; east = x .1; rows = y .0; south = y .1 }
@@ -89,15 +89,15 @@ unfolding zoomedBy zoomedIn
 zoomed-once b = refl
 
 -- a tile is one of the box exactly where the test says so
-pub holds-in : (b : TileZBox) (t : Tile) → Holds b t → inBox b (t .x) (t .y) (t .z) ≡ true
+pub holds-in : (b : TileZBox) (t : Tile) → HoldsTile b t → inBox b (t .x) (t .y) (t .z) ≡ true
 unfolding inBox
 holds-in b t h = rw (eq-eqb _ _ (h .zoom), le-leb _ _ (h .west), le-leb _ _ (h .east), le-leb _ _ (h .north), le-leb _ _ (h .south))
 
-pub in-holds : (b : TileZBox) (t : Tile) → inBox b (t .x) (t .y) (t .z) ≡ true → Holds b t
+pub in-holds : (b : TileZBox) (t : Tile) → inBox b (t .x) (t .y) (t .z) ≡ true → HoldsTile b t
 unfolding inBox
 in-holds b t e =
     let p = and-parts (eqb (t .z) (b .zoom)) _ e in
-    let q = and-parts (inRun (t .x) (b .minx) (b .maxx)) (inRun (t .y) (b .miny) (b .maxy)) (p .1) in
+    let q = and-parts (between (t .x) (b .minx) (b .maxx)) (between (t .y) (b .miny) (b .maxy)) (p .1) in
     let x = and-parts (leb (b .minx) (t .x)) (leb (t .x) (b .maxx)) (q .0) in
     let y = and-parts (leb (b .miny) (t .y)) (leb (t .y) (b .maxy)) (q .1) in
     record { zoom = eqb-true _ _ (p .0); west = leb-true _ _ (x .0); east = leb-true _ _ (x .1); north = leb-true _ _ (y .0); south = leb-true _ _ (y .1) }

@@ -9,7 +9,7 @@ use lib.Pow.{pow-pos}
 use borrow.Author.Tests.{le-ltb}
 use Rattle.constants.specs.Limits.{maxZoom}
 use Rattle.tile.specs.OnMap.{OnMap, tileAt, on-map-accepted}
-use Rattle.tile_zbox.specs.Box.{IsBox, boxRefusal, inBox, Holds, containsOf, flipRow, flipped, flipOf, zoomedIn, zoomedBy, zoomInOf, zoomDepthOf}
+use Rattle.tile_zbox.specs.Box.{IsBox, boxRefusal, inBox, HoldsTile, containsOf, flipRow, flipped, boxFlipOf, zoomedIn, zoomedBy, zoomInOf, zoomDepthOf}
 use Rattle.tile_zbox.specs.Laws.{box-accepted, accepted-box, scaled-below, in-holds}
 use Rattle.tile_zbox.specs.declared.TileZBox.{TileZBox}
 
@@ -46,17 +46,18 @@ flipped-again b i =
     let q : 2 ^ b .zoom - 1 - (2 ^ b .zoom - 1 - b .maxy) ≡ b .maxy = omega (arith, i .south) in
     rw (p, q)
 
-pub flipped-twice-is-the-box : (b : TileZBox) → IsBox b → flipOf (flipOf b .value) ≡ record { number = 0; value = b }
+pub flipped-twice-is-the-box : (b : TileZBox) → IsBox b → boxFlipOf (boxFlipOf b .value) ≡ record { number = 0; value = b }
 flipped-twice-is-the-box b i =
     rw (box-accepted i) (rw (box-accepted (flipped-is-a-box i))
     (ap (λ (v : TileZBox). record { number = 0; value = v }) (flipped-again b i)))
 
 -- it holds exactly the flipped tiles
-pub flipped-holds-the-flipped-tiles : (b : TileZBox) (x y z : ℕ) → IsBox b → y < 2 ^ z → Holds (flipped b) (tileAt x y z) ↔ Holds b (tileAt x (flipRow y z) z)
+pub flipped-holds-the-flipped-tiles : (b : TileZBox) (x y z : ℕ) → IsBox b → y < 2 ^ z
+    → HoldsTile (flipped b) (tileAt x y z) ↔ HoldsTile b (tileAt x (flipRow y z) z)
 unfolding flipped
 flipped-holds-the-flipped-tiles b x y z i m = (there, back)
   where
-    there : Holds (flipped b) (tileAt x y z) → Holds b (tileAt x (flipRow y z) z)
+    there : HoldsTile (flipped b) (tileAt x y z) → HoldsTile b (tileAt x (flipRow y z) z)
     there h = let e : 2 ^ z ≡ 2 ^ b .zoom = ap (λ (n : ℕ). 2 ^ n) (h .zoom) in
         record {
           zoom = h .zoom;
@@ -67,7 +68,7 @@ flipped-holds-the-flipped-tiles b x y z i m = (there, back)
               omega (arith, h .north, i .south);
         }
 
-    back : Holds b (tileAt x (flipRow y z) z) → Holds (flipped b) (tileAt x y z)
+    back : HoldsTile b (tileAt x (flipRow y z) z) → HoldsTile (flipped b) (tileAt x y z)
     back h = let e : 2 ^ z ≡ 2 ^ b .zoom = ap (λ (n : ℕ). 2 ^ n) (h .zoom) in
         record {
           zoom = h .zoom;
@@ -79,7 +80,8 @@ flipped-holds-the-flipped-tiles b x y z i m = (there, back)
         }
 
 -- "`zoom_in`": a tile is in it exactly if its parent is in the box
-pub in-zoom-in-exactly-if-the-parent-is-in-the-box : (b : TileZBox) (x y z : ℕ) → Holds (zoomedIn b) (tileAt x y (z + 1)) ↔ Holds b (tileAt (x / 2) (y / 2) z)
+pub in-zoom-in-exactly-if-the-parent-is-in-the-box : (b : TileZBox) (x y z : ℕ)
+    → HoldsTile (zoomedIn b) (tileAt x y (z + 1)) ↔ HoldsTile b (tileAt (x / 2) (y / 2) z)
 unfolding zoomedIn
 in-zoom-in-exactly-if-the-parent-is-in-the-box b x y z = (
   λ h. record {

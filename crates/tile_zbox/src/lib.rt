@@ -10,8 +10,8 @@ ghost use mathlib.Core.Path.{_≡_};
 ghost use Prim.Native.Nat.{_+_, _≤_};
 ghost use Rattle.constants.specs.Limits.{maxZoom};
 ghost use Rattle.errors.specs.Cases.{checkNumber, boolCase, u32Case, u64Case};
-ghost use Rattle.tile_zbox.specs.Box.{IsBox, wrongRun, wrongEdges, boxRefusal, boxCase, extentCase, newOf, fromTileOf, inRun};
-ghost use Rattle.tile_zbox.specs.Box.{inBox, containsPlaced, containsOf, flipped, flipOf, zoomedBy, zoomInOf, zoomDepthOf};
+ghost use Rattle.tile_zbox.specs.Box.{IsBox, wrongRun, wrongEdges, boxRefusal, boxCase, extentCase, newOf, fromTileOf, between};
+ghost use Rattle.tile_zbox.specs.Box.{inBox, containsPlaced, containsOf, flipped, boxFlipOf, zoomedBy, zoomInOf, zoomDepthOf};
 ghost use Rattle.tile_zbox.specs.Box.{boxLength, lengthOf, dxOf, dyOf, dxdyOf, dimensionsOf};
 
 pub struct TileZBox {
@@ -132,7 +132,7 @@ impl TileZBox {
 
     // Rows counted from the other side of the map.
     pub fn flipy(self) -> BoxAnswer
-        ensures { λ r. ⌜ boxCase r ≡ flipOf self ⌝ }
+        ensures { λ r. ⌜ boxCase r ≡ boxFlipOf self ⌝ }
     {
         match self.check() {
             Check::Fine => BoxAnswer::Found(self.flipped()),
@@ -287,7 +287,7 @@ fn wrong_run(min: u32, max: u32, end: u32) -> bool
 }
 
 fn in_run(n: u32, min: u32, max: u32) -> bool
-    ensures { λ r. ⌜ r ≡ inRun n min max ⌝ }
+    ensures { λ r. ⌜ r ≡ between n min max ⌝ }
 {
     min <= n && n <= max
 }

@@ -16,13 +16,13 @@ abbrev pub ofZoom : ℕ → ℕ → Bool
 ofZoom z n = eqb (entryTile n .z) z
 
 -- the zoom of the first tile
-abbrev pub firstZoom : List ℕ → ℕ
-firstZoom list = entryTile (getD list 0 0) .z
+abbrev pub zoomOfFirst : List ℕ → ℕ
+zoomOfFirst list = entryTile (getD list 0 0) .z
 
 -- too many entries; one that is no tile's; no tile; tiles of other zooms than the first
-unfoldable pub listRefusal : List ℕ → ℕ
-listRefusal list = 6 when ltb maxEntries (length list) else 7 when not (allOf isEntry list) else 8 when eqb (length list) 0
-    else 9 when not (allOf (ofZoom (firstZoom list)) list)
+unfoldable pub tilesRefusal : List ℕ → ℕ
+tilesRefusal list = 6 when ltb maxEntries (length list) else 7 when not (allOf isEntry list) else 8 when eqb (length list) 0
+    else 9 when not (allOf (ofZoom (zoomOfFirst list)) list)
 
 -- the smallest and the greatest of some numbers; 0 of none
 unfoldable pub least : List ℕ → ℕ
@@ -34,18 +34,19 @@ unfoldable pub greatest : List ℕ → ℕ
 greatest [] = 0
 greatest (n ∷ ns) = max n (greatest ns)
 
-abbrev pub columnOf : ℕ → ℕ
-columnOf n = entryTile n .x
+abbrev pub entryColumn : ℕ → ℕ
+entryColumn n = entryTile n .x
 
-abbrev pub rowOf : ℕ → ℕ
-rowOf n = entryTile n .y
+abbrev pub entryRow : ℕ → ℕ
+entryRow n = entryTile n .y
 
 -- the box from the smallest to the greatest column and row of the listed tiles
 unfoldable pub boxAround : List ℕ → TileZBox
-boxAround list = boxAt (firstZoom list) (least (map columnOf list)) (greatest (map columnOf list)) (least (map rowOf list)) (greatest (map rowOf list))
+boxAround list = boxAt (zoomOfFirst list) (least (map entryColumn list)) (greatest (map entryColumn list)) (least (map entryRow list))
+    (greatest (map entryRow list))
 
 abbrev pub fromTilesOf : List ℕ → Answer TileZBox
-fromTilesOf list = answer (listRefusal list) noBox (boxAround list)
+fromTilesOf list = answer (tilesRefusal list) noBox (boxAround list)
 
 -- a box with one tile more, as the code takes it
 abbrev pub grown : TileZBox → Tile → TileZBox

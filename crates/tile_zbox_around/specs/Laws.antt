@@ -15,26 +15,27 @@ use Rattle.constants.specs.Limits.{maxEntries}
 use Rattle.errors.specs.Answer.{_when_, _else_}
 use Rattle.ids.specs.Entry.{entryTile, entryRefusal, isEntry}
 use Rattle.tile_zbox.specs.Box.{boxAt}
-use Rattle.tile_zbox_around.specs.Around.{ofZoom, firstZoom, listRefusal, least, greatest, columnOf, rowOf, boxAround, grown}
+use Rattle.tile_zbox_around.specs.Around.{ofZoom, zoomOfFirst, tilesRefusal, least, greatest, entryColumn, entryRow, boxAround, grown}
 
 pub entry-at : (l : List ℕ) (i : ℕ) → allOf isEntry l ≡ true → i < length l → entryRefusal (getD l i 0) ≡ 0
 entry-at l i e h = eqb-true _ _ (all-at isEntry l i e h)
 
 -- the refusals of a list, each where the tests before it find nothing
-pub list-long : (l : List ℕ) → maxEntries < length l → listRefusal l ≡ 6
-unfolding listRefusal
+pub list-long : (l : List ℕ) → maxEntries < length l → tilesRefusal l ≡ 6
+unfolding tilesRefusal
 list-long l h = rw (lt-ltb _ _ h)
 
-pub list-stranger : (l : List ℕ) → length l ≤ maxEntries → allOf isEntry l ≡ false → listRefusal l ≡ 7
-unfolding listRefusal
+pub list-stranger : (l : List ℕ) → length l ≤ maxEntries → allOf isEntry l ≡ false → tilesRefusal l ≡ 7
+unfolding tilesRefusal
 list-stranger l h e = rw (le-ltb _ _ h, e)
 
-pub list-empty : (l : List ℕ) → length l ≤ maxEntries → allOf isEntry l ≡ true → length l ≡ 0 → listRefusal l ≡ 8
-unfolding listRefusal
+pub list-empty : (l : List ℕ) → length l ≤ maxEntries → allOf isEntry l ≡ true → length l ≡ 0 → tilesRefusal l ≡ 8
+unfolding tilesRefusal
 list-empty l h e f = rw (le-ltb _ _ h, e, eq-eqb _ _ f)
 
-pub list-mixed : (l : List ℕ) → length l ≤ maxEntries → allOf isEntry l ≡ true → (length l ≡ 0 → ⊥) → allOf (ofZoom (firstZoom l)) l ≡ false → listRefusal l ≡ 9
-unfolding listRefusal
+pub list-mixed : (l : List ℕ) → length l ≤ maxEntries → allOf isEntry l ≡ true → (length l ≡ 0 → ⊥)
+    → allOf (ofZoom (zoomOfFirst l)) l ≡ false → tilesRefusal l ≡ 9
+unfolding tilesRefusal
 list-mixed l h e f g = rw (le-ltb _ _ h, e, ne-eqb _ _ f, g)
 
 -- what is known of a list that is not refused
@@ -42,18 +43,18 @@ pub record OneZoom (l : List ℕ) : Type 0 where
   pub few : length l ≤ maxEntries
   pub entries : allOf isEntry l ≡ true
   pub some : 0 < length l
-  pub zooms : allOf (ofZoom (firstZoom l)) l ≡ true
+  pub zooms : allOf (ofZoom (zoomOfFirst l)) l ≡ true
 
-pub one-zoom-accepted : {l : List ℕ} → OneZoom l → listRefusal l ≡ 0
-unfolding listRefusal
+pub one-zoom-accepted : {l : List ℕ} → OneZoom l → tilesRefusal l ≡ 0
+unfolding tilesRefusal
 one-zoom-accepted {l} k = let f : length l ≡ 0 → ⊥ = λ z. omega (arith, k .some) in rw (le-ltb _ _ (k .few), k .entries, ne-eqb _ _ f, k .zooms)
 
-pub accepted-one-zoom : (l : List ℕ) → listRefusal l ≡ 0 → OneZoom l
-unfolding listRefusal
-accepted-one-zoom l e = pick (ltb maxEntries (length l)) refl (allOf isEntry l) refl (eqb (length l) 0) refl (allOf (ofZoom (firstZoom l)) l) refl e
+pub accepted-one-zoom : (l : List ℕ) → tilesRefusal l ≡ 0 → OneZoom l
+unfolding tilesRefusal
+accepted-one-zoom l e = pick (ltb maxEntries (length l)) refl (allOf isEntry l) refl (eqb (length l) 0) refl (allOf (ofZoom (zoomOfFirst l)) l) refl e
   where
     pick : (a : Bool) → ltb maxEntries (length l) ≡ a → (b : Bool) → allOf isEntry l ≡ b → (c : Bool) → eqb (length l) 0 ≡ c → (d : Bool)
-        → allOf (ofZoom (firstZoom l)) l ≡ d
+        → allOf (ofZoom (zoomOfFirst l)) l ≡ d
         → (6 when a else 7 when not b else 8 when c else 9 when not d) ≡ 0 → OneZoom l
     pick true p b q c r d s e = absurd (omega arith)
     pick false p false q c r d s e = absurd (omega arith)
@@ -93,10 +94,10 @@ around-more (n ∷ ns) (suc i) h k =
     rw (
       add-one (suc i),
       take-suc ns i 0 l,
-      map-append columnOf (take i ns) (m ∷ []),
-      map-append rowOf (take i ns) (m ∷ []),
-      least-more (columnOf n) (map columnOf (take i ns)) (columnOf m),
-      least-more (rowOf n) (map rowOf (take i ns)) (rowOf m),
-      greatest-more (columnOf n ∷ map columnOf (take i ns)) (columnOf m),
-      greatest-more (rowOf n ∷ map rowOf (take i ns)) (rowOf m),
+      map-append entryColumn (take i ns) (m ∷ []),
+      map-append entryRow (take i ns) (m ∷ []),
+      least-more (entryColumn n) (map entryColumn (take i ns)) (entryColumn m),
+      least-more (entryRow n) (map entryRow (take i ns)) (entryRow m),
+      greatest-more (entryColumn n ∷ map entryColumn (take i ns)) (entryColumn m),
+      greatest-more (entryRow n ∷ map entryRow (take i ns)) (entryRow m),
     )

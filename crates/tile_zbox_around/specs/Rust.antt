@@ -13,7 +13,7 @@ use Rattle.ids.specs.Entry.{entryTile}
 use Rattle.tile.specs.declared.Tile.{Tile}
 use Rattle.tile_zbox.specs.Box.{boxAt}
 use Rattle.tile_zbox.specs.declared.TileZBox.{TileZBox}
-use Rattle.tile_zbox_around.specs.Around.{ofZoom, firstZoom, listRefusal, least, greatest, columnOf, rowOf, boxAround}
+use Rattle.tile_zbox_around.specs.Around.{ofZoom, zoomOfFirst, tilesRefusal, least, greatest, entryColumn, entryRow, boxAround}
 use Rattle.tile_zbox_around.specs.Laws.{accepted-one-zoom}
 use Rattle.tile_zbox_around.specs.Theorems.{from-tiles-gives-a-box}
 
@@ -54,8 +54,8 @@ moved-is b t = rw (lower-is (t .x) (b .minx), higher-is (t .x) (b .maxx), lower-
 
 -- the four numbers and those of a list of at least one tile
 abbrev moved-by : TileZBox → List ℕ → TileZBox
-moved-by b l = boxAt (b .zoom) (min (b .minx) (least (map columnOf l))) (max (b .maxx) (greatest (map columnOf l)))
-    (min (b .miny) (least (map rowOf l))) (max (b .maxy) (greatest (map rowOf l)))
+moved-by b l = boxAt (b .zoom) (min (b .minx) (least (map entryColumn l))) (max (b .maxx) (greatest (map entryColumn l)))
+    (min (b .miny) (least (map entryRow l))) (max (b .maxy) (greatest (map entryRow l)))
 
 walk-fine : (b : TileZBox) (t : Tile) (ts : List Tile) → eqb (t .z) (b .zoom) ≡ true → rustWalk b (t ∷ ts) ≡ rustWalk (moved b t) ts
 unfolding rustWalk
@@ -68,10 +68,10 @@ walk-none b = refl
 moved-one : (b : TileZBox) (n : ℕ) → moved b (entryTile n) ≡ moved-by b (n ∷ [])
 unfolding least greatest
 moved-one b n =
-    let p : min (columnOf n) (b .minx) ≡ min (b .minx) (columnOf n) = omega arith in
-    let q : max (columnOf n) (b .maxx) ≡ max (b .maxx) (max (columnOf n) 0) = omega arith in
-    let r : min (rowOf n) (b .miny) ≡ min (b .miny) (rowOf n) = omega arith in
-    let s : max (rowOf n) (b .maxy) ≡ max (b .maxy) (max (rowOf n) 0) = omega arith in
+    let p : min (entryColumn n) (b .minx) ≡ min (b .minx) (entryColumn n) = omega arith in
+    let q : max (entryColumn n) (b .maxx) ≡ max (b .maxx) (max (entryColumn n) 0) = omega arith in
+    let r : min (entryRow n) (b .miny) ≡ min (b .miny) (entryRow n) = omega arith in
+    let s : max (entryRow n) (b .maxy) ≡ max (b .maxy) (max (entryRow n) 0) = omega arith in
     moved-is b (entryTile n) ∙ rw (p, q, r, s)
 
 min-turned : (a b c : ℕ) → min (min a b) c ≡ min b (min a c)
@@ -85,10 +85,10 @@ unfolding least greatest
 moved-more b n m ms =
     ap (λ (v : TileZBox). moved-by v (m ∷ ms)) (moved-is b (entryTile n))
     ∙ rw (
-      min-turned (columnOf n) (b .minx),
-      max-turned (columnOf n) (b .maxx),
-      min-turned (rowOf n) (b .miny),
-      max-turned (rowOf n) (b .maxy),
+      min-turned (entryColumn n) (b .minx),
+      max-turned (entryColumn n) (b .maxx),
+      min-turned (entryRow n) (b .miny),
+      max-turned (entryRow n) (b .maxy),
     )
 
 walked : (n : ℕ) (ns : List ℕ) (b : TileZBox) → allOf (ofZoom (b .zoom)) (n ∷ ns) ≡ true
@@ -103,7 +103,7 @@ walked n (m ∷ ms) b e =
     ∙ (walked m ms (moved b (entryTile n)) (h .1) ∙ ap (λ (v : TileZBox). record { fine = true; box = v }) (moved-more b n m ms))
 
 -- of a list of tiles of zoom 0 to 29 that is not refused it is the same box
-pub rust-from-tiles : (l : List ℕ) → listRefusal l ≡ 0 → firstZoom l ≤ 29
+pub rust-from-tiles : (l : List ℕ) → tilesRefusal l ≡ 0 → zoomOfFirst l ≤ 29
     → rustFromTiles (map entryTile l) ≡ record { fine = true; box = boxAround l }
 unfolding rustFromTiles boxAround
 rust-from-tiles [] e d = let s = accepted-one-zoom [] e .some in absurd (omega arith)
@@ -111,8 +111,8 @@ rust-from-tiles (n ∷ ns) e d =
     let k = accepted-one-zoom (n ∷ ns) e in
     let i = from-tiles-gives-a-box (n ∷ ns) e in
     let w = pow-mono {j = 29} d in
-    let p : min (2 ^ 32 - 1) (least (map columnOf (n ∷ ns))) ≡ least (map columnOf (n ∷ ns)) = omega (arith, i .columns, i .east) in
-    let r : min (2 ^ 32 - 1) (least (map rowOf (n ∷ ns))) ≡ least (map rowOf (n ∷ ns)) = omega (arith, i .rows, i .south) in
-    let q : max 0 (greatest (map columnOf (n ∷ ns))) ≡ greatest (map columnOf (n ∷ ns)) = omega arith in
-    let s : max 0 (greatest (map rowOf (n ∷ ns))) ≡ greatest (map rowOf (n ∷ ns)) = omega arith in
+    let p : min (2 ^ 32 - 1) (least (map entryColumn (n ∷ ns))) ≡ least (map entryColumn (n ∷ ns)) = omega (arith, i .columns, i .east) in
+    let r : min (2 ^ 32 - 1) (least (map entryRow (n ∷ ns))) ≡ least (map entryRow (n ∷ ns)) = omega (arith, i .rows, i .south) in
+    let q : max 0 (greatest (map entryColumn (n ∷ ns))) ≡ greatest (map entryColumn (n ∷ ns)) = omega arith in
+    let s : max 0 (greatest (map entryRow (n ∷ ns))) ≡ greatest (map entryRow (n ∷ ns)) = omega arith in
     walked n ns (boxAt (entryTile n .z) (2 ^ 32 - 1) 0 (2 ^ 32 - 1) 0) (k .zooms) ∙ rw (p, q, r, s)

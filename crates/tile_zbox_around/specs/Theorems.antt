@@ -11,9 +11,9 @@ use Rattle.bits.specs.Tests.{all-at}
 use Rattle.ids.specs.Entry.{entryTile, accepted-entry}
 use Rattle.tile.specs.OnMap.{OnMap}
 use Rattle.tile.specs.declared.Tile.{Tile}
-use Rattle.tile_zbox.specs.Box.{IsBox, Holds}
+use Rattle.tile_zbox.specs.Box.{IsBox, HoldsTile}
 use Rattle.tile_zbox.specs.declared.TileZBox.{TileZBox}
-use Rattle.tile_zbox_around.specs.Around.{ofZoom, firstZoom, listRefusal, least, greatest, columnOf, rowOf, boxAround}
+use Rattle.tile_zbox_around.specs.Around.{ofZoom, zoomOfFirst, tilesRefusal, least, greatest, entryColumn, entryRow, boxAround}
 use Rattle.tile_zbox_around.specs.Laws.{entry-at, accepted-one-zoom}
 
 -- the smallest and the greatest of a list's numbers
@@ -43,52 +43,52 @@ greatest-bound f [] b k = omega arith
 greatest-bound f (n ∷ ns) b k = max-le (k 0 (omega arith)) (greatest-bound f ns b (λ i j. k (suc i) (omega arith)))
 
 -- "`from_tiles`": its box holds every listed tile
-pub from-tiles-holds-every-listed-tile : (l : List ℕ) (i : ℕ) → listRefusal l ≡ 0 → i < length l → Holds (boxAround l) (entryTile (getD l i 0))
+pub from-tiles-holds-every-listed-tile : (l : List ℕ) (i : ℕ) → tilesRefusal l ≡ 0 → i < length l → HoldsTile (boxAround l) (entryTile (getD l i 0))
 unfolding boxAround
 from-tiles-holds-every-listed-tile l i e h =
     let k = accepted-one-zoom l e in
     record {
-      zoom = eqb-true _ _ (all-at (ofZoom (firstZoom l)) l i (k .zooms) h);
-      west = least-below columnOf l i h;
+      zoom = eqb-true _ _ (all-at (ofZoom (zoomOfFirst l)) l i (k .zooms) h);
+      west = least-below entryColumn l i h;
       east =
-          greatest-above columnOf l i h;
-      north = least-below rowOf l i h;
-      south = greatest-above rowOf l i h;
+          greatest-above entryColumn l i h;
+      north = least-below entryRow l i h;
+      south = greatest-above entryRow l i h;
     }
 
 -- and no smaller box does: every box that holds all of them holds it
-pub no-smaller-box-does : (l : List ℕ) (c : TileZBox) → listRefusal l ≡ 0 → ((i : ℕ) → i < length l → Holds c (entryTile (getD l i 0)))
-    → (t : Tile) → Holds (boxAround l) t → Holds c t
+pub no-smaller-box-does : (l : List ℕ) (c : TileZBox) → tilesRefusal l ≡ 0 → ((i : ℕ) → i < length l → HoldsTile c (entryTile (getD l i 0)))
+    → (t : Tile) → HoldsTile (boxAround l) t → HoldsTile c t
 unfolding boxAround
 no-smaller-box-does l c e k t h =
     let s = accepted-one-zoom l e .some in
     record {
       zoom = h .zoom ∙ k 0 s .zoom;
-      west = omega (arith, h .west, least-bound columnOf l (c .minx) s (λ i j. k i j .west));
-      east = omega (arith, h .east, greatest-bound columnOf l (c .maxx) (λ i j. k i j .east));
-      north = omega (arith, h .north, least-bound rowOf l (c .miny) s (λ i j. k i j .north));
-      south = omega (arith, h .south, greatest-bound rowOf l (c .maxy) (λ i j. k i j .south));
+      west = omega (arith, h .west, least-bound entryColumn l (c .minx) s (λ i j. k i j .west));
+      east = omega (arith, h .east, greatest-bound entryColumn l (c .maxx) (λ i j. k i j .east));
+      north = omega (arith, h .north, least-bound entryRow l (c .miny) s (λ i j. k i j .north));
+      south = omega (arith, h .south, greatest-bound entryRow l (c .maxy) (λ i j. k i j .south));
     }
 
 -- what `from_tiles` answers is a box of the map
-pub from-tiles-gives-a-box : (l : List ℕ) → listRefusal l ≡ 0 → IsBox (boxAround l)
+pub from-tiles-gives-a-box : (l : List ℕ) → tilesRefusal l ≡ 0 → IsBox (boxAround l)
 unfolding boxAround
 from-tiles-gives-a-box l e =
     let k = accepted-one-zoom l e in
     let m : (i : ℕ) → i < length l → OnMap (entryTile (getD l i 0) .x) (entryTile (getD l i 0) .y) (entryTile (getD l i 0) .z) =
     λ i h. accepted-entry (getD l i 0) (entry-at l i (k .entries) h) in
-    let z : (i : ℕ) → i < length l → entryTile (getD l i 0) .z ≡ firstZoom l = λ i h. eqb-true _ _ (all-at (ofZoom (firstZoom l)) l i (k .zooms) h) in
-    let p = pow-pos (firstZoom l) in
-    let x = greatest-bound columnOf l (2 ^ firstZoom l - 1)
-    (λ i h. let r : columnOf (getD l i 0) < 2 ^ firstZoom l = subst (λ (n : ℕ). columnOf (getD l i 0) < 2 ^ n) (z i h) (m i h .column) in
+    let z : (i : ℕ) → i < length l → entryTile (getD l i 0) .z ≡ zoomOfFirst l = λ i h. eqb-true _ _ (all-at (ofZoom (zoomOfFirst l)) l i (k .zooms) h) in
+    let p = pow-pos (zoomOfFirst l) in
+    let x = greatest-bound entryColumn l (2 ^ zoomOfFirst l - 1)
+    (λ i h. let r : entryColumn (getD l i 0) < 2 ^ zoomOfFirst l = subst (λ (n : ℕ). entryColumn (getD l i 0) < 2 ^ n) (z i h) (m i h .column) in
     omega arith) in
-    let y = greatest-bound rowOf l (2 ^ firstZoom l - 1)
-    (λ i h. let r : rowOf (getD l i 0) < 2 ^ firstZoom l = subst (λ (n : ℕ). rowOf (getD l i 0) < 2 ^ n) (z i h) (m i h .row) in
+    let y = greatest-bound entryRow l (2 ^ zoomOfFirst l - 1)
+    (λ i h. let r : entryRow (getD l i 0) < 2 ^ zoomOfFirst l = subst (λ (n : ℕ). entryRow (getD l i 0) < 2 ^ n) (z i h) (m i h .row) in
     omega arith) in
     record {
       zoom = m 0 (k .some) .zoom;
-      columns = omega (arith, least-below columnOf l 0 (k .some), greatest-above columnOf l 0 (k .some));
+      columns = omega (arith, least-below entryColumn l 0 (k .some), greatest-above entryColumn l 0 (k .some));
       east = omega arith;
-      rows = omega (arith, least-below rowOf l 0 (k .some), greatest-above rowOf l 0 (k .some));
+      rows = omega (arith, least-below entryRow l 0 (k .some), greatest-above entryRow l 0 (k .some));
       south = omega arith;
     }

@@ -14,7 +14,7 @@ ghost use Rattle.bits.specs.Tests.{allOf};
 ghost use Rattle.errors.specs.Cases.{checkNumber};
 ghost use Rattle.ids.specs.Entry.{entryTile, entryRefusal, isEntry};
 ghost use Rattle.tile_zbox.specs.Box.{boxCase};
-ghost use Rattle.tile_zbox_around.specs.Around.{ofZoom, listRefusal, grown, boxAround, fromTilesOf};
+ghost use Rattle.tile_zbox_around.specs.Around.{ofZoom, tilesRefusal, grown, boxAround, fromTilesOf};
 
 // The smallest box of the listed tiles.
 pub fn from_tiles(list: &[u64]) -> BoxAnswer
@@ -28,7 +28,7 @@ pub fn from_tiles(list: &[u64]) -> BoxAnswer
 
 // Whether a list is one of tiles of one zoom: too many, then a number of no tile, then none, then mixed zooms.
 fn list_check(list: &[u64]) -> Check
-    ensures { λ r. ⌜ checkNumber r ≡ listRefusal (now (list .entry)) ⌝ }
+    ensures { λ r. ⌜ checkNumber r ≡ tilesRefusal (now (list .entry)) ⌝ }
 {
     if list.len() > MAX_ENTRIES {
         return Check::Refused(Refusal::TooMany);

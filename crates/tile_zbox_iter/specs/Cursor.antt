@@ -25,24 +25,24 @@ pub record Step : Type 0 where
   pub tile : Tile
   pub cursor : TileZBoxIterator
 
-abbrev pub given : Tile → TileZBoxIterator → Step
-given t c = record { count = 1; tile = t; cursor = c }
+abbrev pub stepGiven : Tile → TileZBoxIterator → Step
+stepGiven t c = record { count = 1; tile = t; cursor = c }
 
-abbrev pub ended : TileZBoxIterator → Step
-ended c = record { count = 0; tile = noTile; cursor = c }
+abbrev pub stepEnded : TileZBoxIterator → Step
+stepEnded c = record { count = 0; tile = noTile; cursor = c }
 
 -- the zero of the type
 abbrev pub noStep : Step
-noStep = ended (cursorAt noBox 0)
+noStep = stepEnded (cursorAt noBox 0)
 
 abbrev pub nextCase : NextAnswer → Answer Step
-nextCase (Given t c) = record { number = 0; value = given t c }
-nextCase (End c) = record { number = 0; value = ended c }
+nextCase (Given t c) = record { number = 0; value = stepGiven t c }
+nextCase (End c) = record { number = 0; value = stepEnded c }
 nextCase (Refused why) = refusedAs why noStep
 
 -- tile number n and the cursor after it; all of the box given, the cursor as it was
 abbrev pub stepOn : TileZBox → ℕ → Step
-stepOn b n = cond (ltb n (boxLength b)) (given (kthTile b n) (cursorAt b (n + 1))) (ended (cursorAt b n))
+stepOn b n = cond (ltb n (boxLength b)) (stepGiven (kthTile b n) (cursorAt b (n + 1))) (stepEnded (cursorAt b n))
 
 -- 10 for a cursor that has given more tiles than its box holds
 abbrev pub stepFrom : TileZBox → ℕ → Answer Step

@@ -18,7 +18,7 @@ use Rattle.tile_zbox.specs.Laws.{accepted-box}
 use Rattle.tile_zbox.specs.Rust.{u32, Compared, boxes-compared, edges-small, rustLength, rust-length}
 use Rattle.tile_zbox.specs.declared.TileZBox.{TileZBox}
 use Rattle.tile_zbox_iter.specs.Cursor.{kthTile, nextRefusal, sizeHintOf}
-use Rattle.tile_zbox_iter.specs.Tiles.{tilesOf, numberedFrom, kth-place, numbered-all}
+use Rattle.tile_zbox_iter.specs.Tiles.{boxTiles, numberedFrom, kth-at, numbered-all}
 use Rattle.tile_zbox_iter.specs.declared.TileZBoxIterator.{TileZBoxIterator}
 
 -- the iterator's state: the column and the row that come next; the column may be one past the last, and the next call then moves the row on
@@ -121,7 +121,7 @@ step-inside b k s i a l r =
     let x : b .minx + (s .column - b .minx) ≡ s .column = omega (arith, a .west) in
     let y : b .miny + (s .row - b .miny) ≡ s .row = omega (arith, a .north) in
     let t : tileAt (s .column) (s .row) (b .zoom) ≡ kthTile b k =
-    sym (ap (kthTile b) (sym (a .place)) ∙ (kth-place b (s .row - b .miny) (s .column - b .minx) (omega (arith, a .west)) ∙ rw (x, y))) in
+    sym (ap (kthTile b) (sym (a .place)) ∙ (kth-at b (s .row - b .miny) (s .column - b .minx) (omega (arith, a .west)) ∙ rw (x, y))) in
     let p : s .column + 1 - b .minx ≡ s .column - b .minx + 1 = omega (arith, a .west) in
     rw (le-ltb _ _ r, mod-eq-of-lt h)
     (refl, t, record { west = omega (arith, a .west); east = omega arith; north = a .north; place = rw p (omega (arith, a .place)) })
@@ -161,7 +161,7 @@ drained b (suc calls) (suc n) k s i a e h =
     rw (g .0, g .1, o)
 
 -- one box of zoom 0 to 29: its iterator ends by itself, however many calls there may be
-pub rust-drained : (b : TileZBox) (calls : ℕ) → Compared b → boxLength b < calls → rustDrained calls b (stateAt (b .minx) (b .miny)) ≡ tilesOf b
+pub rust-drained : (b : TileZBox) (calls : ℕ) → Compared b → boxLength b < calls → rustDrained calls b (stateAt (b .minx) (b .miny)) ≡ boxTiles b
 rust-drained b calls i h = drained b calls (boxLength b) 0 (stateAt (b .minx) (b .miny)) i (rust-starts b i) (omega arith) h ∙ numbered-all b
 
 -- `size_hint` multiplies in 32 bits, as `length` does, and asks nothing of where the iterator stands: its two numbers are the same

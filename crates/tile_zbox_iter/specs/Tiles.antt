@@ -12,10 +12,10 @@ use borrow.Author.Tests.{lt-ltb, le-ltb}
 use Rattle.tile.specs.OnMap.{tileAt, noTile}
 use Rattle.tile.specs.Order.{tile-ext}
 use Rattle.tile.specs.declared.Tile.{Tile}
-use Rattle.tile_zbox.specs.Box.{IsBox, Holds, columnsOf, rowsOf, boxLength}
+use Rattle.tile_zbox.specs.Box.{IsBox, HoldsTile, columnsOf, rowsOf, boxLength}
 use Rattle.tile_zbox.specs.Laws.{box-accepted}
 use Rattle.tile_zbox.specs.declared.TileZBox.{TileZBox}
-use Rattle.tile_zbox_iter.specs.Cursor.{cursorAt, kthTile, given, ended, nextOf}
+use Rattle.tile_zbox_iter.specs.Cursor.{cursorAt, kthTile, stepGiven, stepEnded, nextOf}
 use Rattle.tile_zbox_iter.specs.declared.TileZBoxIterator.{TileZBoxIterator}
 
 -- the n tiles of a row from column x on
@@ -29,8 +29,8 @@ rowsFrom b y zero = []
 rowsFrom b y (suc n) = rowFrom (b .zoom) y (b .minx) (columnsOf b) ++ rowsFrom b (suc y) n
 
 -- the box's tiles, row by row
-abbrev pub tilesOf : TileZBox → List Tile
-tilesOf b = rowsFrom b (b .miny) (rowsOf b)
+abbrev pub boxTiles : TileZBox → List Tile
+boxTiles b = rowsFrom b (b .miny) (rowsOf b)
 
 -- the tiles with the n numbers from k on
 unfoldable pub numberedFrom : TileZBox → ℕ → ℕ → List Tile
@@ -38,9 +38,9 @@ numberedFrom b k zero = []
 numberedFrom b k (suc n) = kthTile b k ∷ numberedFrom b (suc k) n
 
 -- the tile's number that stands in row r and column j of the box
-pub kth-place : (b : TileZBox) (r j : ℕ) → j < columnsOf b → kthTile b (r * columnsOf b + j) ≡ tileAt (b .minx + j) (b .miny + r) (b .zoom)
+pub kth-at : (b : TileZBox) (r j : ℕ) → j < columnsOf b → kthTile b (r * columnsOf b + j) ≡ tileAt (b .minx + j) (b .miny + r) (b .zoom)
 unfolding kthTile
-kth-place b r j h = rw (digits-mod r h, digits-div r h)
+kth-at b r j h = rw (digits-mod r h, digits-div r h)
 
 numbered-append : (b : TileZBox) (k m n : ℕ) → numberedFrom b k (m + n) ≡ numberedFrom b k m ++ numberedFrom b (k + m) n
 unfolding numberedFrom
@@ -56,7 +56,7 @@ numbered-row b r j (suc n) h =
     let l : j < columnsOf b = omega arith in
     let e : suc (r * columnsOf b + j) ≡ r * columnsOf b + suc j = omega arith in
     let f : suc (b .minx + j) ≡ b .minx + suc j = omega arith in
-    rw (kth-place b r j l, e, f) (ap (λ (t : List Tile). tileAt (b .minx + j) (b .miny + r) (b .zoom) ∷ t) (numbered-row b r (suc j) n (omega arith)))
+    rw (kth-at b r j l, e, f) (ap (λ (t : List Tile). tileAt (b .minx + j) (b .miny + r) (b .zoom) ∷ t) (numbered-row b r (suc j) n (omega arith)))
 
 numbered-rows : (b : TileZBox) (r n : ℕ) → numberedFrom b (r * columnsOf b) (n * columnsOf b) ≡ rowsFrom b (b .miny + r) n
 unfolding numberedFrom rowsFrom
@@ -75,7 +75,7 @@ numbered-rows b r (suc n) =
     ∙ ap₂ _++_ row (ap (λ (k : ℕ). numberedFrom b k (n * c)) p
     ∙ (numbered-rows b (suc r) n ∙ ap (λ (y : ℕ). rowsFrom b y n) (sym s))))
 
-pub numbered-all : (b : TileZBox) → numberedFrom b 0 (boxLength b) ≡ tilesOf b
+pub numbered-all : (b : TileZBox) → numberedFrom b 0 (boxLength b) ≡ boxTiles b
 unfolding boxLength
 numbered-all b =
     let z : 0 * columnsOf b ≡ 0 = omega arith in
@@ -96,7 +96,7 @@ numbered-at b k zero i h = absurd (omega arith)
 numbered-at b k (suc n) zero h = let e : k + 0 ≡ k = omega arith in rw e
 numbered-at b k (suc n) (suc i) h = let e : suc k + i ≡ k + suc i = omega arith in numbered-at b (suc k) n i (omega arith) ∙ ap (kthTile b) e
 
-pub tile-of-box-at : (b : TileZBox) (k : ℕ) → k < boxLength b → getD (tilesOf b) k noTile ≡ kthTile b k
+pub tile-of-box-at : (b : TileZBox) (k : ℕ) → k < boxLength b → getD (boxTiles b) k noTile ≡ kthTile b k
 tile-of-box-at b k h =
     let e : 0 + k ≡ k = omega arith in
     ap (λ (ts : List Tile). getD ts k noTile) (sym (numbered-all b)) ∙ (numbered-at b 0 (boxLength b) k h ∙ ap (kthTile b) e)
@@ -128,7 +128,7 @@ unfolding boxLength
 row-below b k h = let p : 0 < columnsOf b = omega arith in div-lt-iff-lt-mul p .1 (rw (mul-comm (rowsOf b) (columnsOf b)) h)
 
 -- a number's tile is in the box
-pub kth-holds : (b : TileZBox) (k : ℕ) → IsBox b → k < boxLength b → Holds b (kthTile b k)
+pub kth-holds : (b : TileZBox) (k : ℕ) → IsBox b → k < boxLength b → HoldsTile b (kthTile b k)
 unfolding kthTile
 kth-holds b k i h =
     let x = column-below b k in
@@ -136,43 +136,44 @@ kth-holds b k i h =
     record { zoom = refl; west = omega arith; east = omega (arith, i .columns); north = omega arith; south = omega (arith, i .rows) }
 
 -- the number of a tile of the box
-abbrev pub placeOf : TileZBox → Tile → ℕ
-placeOf b t = (t .y - b .miny) * columnsOf b + (t .x - b .minx)
+abbrev pub indexOf : TileZBox → Tile → ℕ
+indexOf b t = (t .y - b .miny) * columnsOf b + (t .x - b .minx)
 
-pub place-below : (b : TileZBox) (t : Tile) → Holds b t → placeOf b t < boxLength b
+pub index-below : (b : TileZBox) (t : Tile) → HoldsTile b t → indexOf b t < boxLength b
 unfolding boxLength
-place-below b t h = rw (mul-comm (columnsOf b) (rowsOf b)) (digits-lt (omega (arith, h .north, h .south)) (omega (arith, h .west, h .east)))
+index-below b t h = rw (mul-comm (columnsOf b) (rowsOf b)) (digits-lt (omega (arith, h .north, h .south)) (omega (arith, h .west, h .east)))
 
-pub kth-of-place : (b : TileZBox) (t : Tile) → Holds b t → kthTile b (placeOf b t) ≡ t
-kth-of-place b t h =
-    kth-place b (t .y - b .miny) (t .x - b .minx) (omega (arith, h .west, h .east))
+pub kth-of-index : (b : TileZBox) (t : Tile) → HoldsTile b t → kthTile b (indexOf b t) ≡ t
+kth-of-index b t h =
+    kth-at b (t .y - b .miny) (t .x - b .minx) (omega (arith, h .west, h .east))
     ∙ tile-ext (tileAt (b .minx + (t .x - b .minx)) (b .miny + (t .y - b .miny)) (b .zoom)) t (omega (arith, h .west))
     (omega (arith, h .north)) (sym (h .zoom))
 
-pub place-of-kth : (b : TileZBox) (k : ℕ) → placeOf b (kthTile b k) ≡ k
+pub index-of-kth : (b : TileZBox) (k : ℕ) → indexOf b (kthTile b k) ≡ k
 unfolding kthTile
-place-of-kth b k =
+index-of-kth b k =
     let x : b .minx + k % columnsOf b - b .minx ≡ k % columnsOf b = omega arith in
     let y : b .miny + k / columnsOf b - b .miny ≡ k / columnsOf b = omega arith in
     rw (x, y) (div-add-mod' k (columnsOf b))
 
 -- calls of `next` from a cursor on: the tiles that they give one by one, and the cursor that they leave
-pub data Gives : TileZBoxIterator → List Tile → TileZBoxIterator → Type 0 where
-  none : {c : TileZBoxIterator} → Gives c [] c
-  more : {c d e : TileZBoxIterator} {t : Tile} {ts : List Tile} → nextOf c ≡ record { number = 0; value = given t d } → Gives d ts e → Gives c (t ∷ ts) e
+pub data CursorGives : TileZBoxIterator → List Tile → TileZBoxIterator → Type 0 where
+  none : {c : TileZBoxIterator} → CursorGives c [] c
+  more : {c d e : TileZBoxIterator} {t : Tile} {ts : List Tile} → nextOf c ≡ record { number = 0; value = stepGiven t d }
+      → CursorGives d ts e → CursorGives c (t ∷ ts) e
 
 pub next-gives : (b : TileZBox) (k : ℕ) → IsBox b → k < boxLength b
-    → nextOf (cursorAt b k) ≡ record { number = 0; value = given (kthTile b k) (cursorAt b (k + 1)) }
+    → nextOf (cursorAt b k) ≡ record { number = 0; value = stepGiven (kthTile b k) (cursorAt b (k + 1)) }
 next-gives b k i h = let l : k ≤ boxLength b = omega arith in rw (box-accepted i, le-ltb _ _ l, lt-ltb _ _ h)
 
-pub next-ends : (b : TileZBox) → IsBox b → nextOf (cursorAt b (boxLength b)) ≡ record { number = 0; value = ended (cursorAt b (boxLength b)) }
+pub next-ends : (b : TileZBox) → IsBox b → nextOf (cursorAt b (boxLength b)) ≡ record { number = 0; value = stepEnded (cursorAt b (boxLength b)) }
 next-ends b i = let l : boxLength b ≤ boxLength b = omega arith in rw (box-accepted i, le-ltb _ _ l)
 
-pub gives-numbered : (b : TileZBox) (k n : ℕ) → IsBox b → k + n ≤ boxLength b → Gives (cursorAt b k) (numberedFrom b k n) (cursorAt b (k + n))
+pub gives-numbered : (b : TileZBox) (k n : ℕ) → IsBox b → k + n ≤ boxLength b → CursorGives (cursorAt b k) (numberedFrom b k n) (cursorAt b (k + n))
 unfolding numberedFrom
 gives-numbered b k zero i h = let e : k + 0 ≡ k = omega arith in rw e none
 gives-numbered b k (suc n) i h =
     let e : k + suc n ≡ suc k + n = omega arith in
-    let f : nextOf (cursorAt b k) ≡ record { number = 0; value = given (kthTile b k) (cursorAt b (suc k)) } =
-    next-gives b k i (omega arith) ∙ ap (λ (m : ℕ). record { number = 0; value = given (kthTile b k) (cursorAt b m) }) (add-one k) in
+    let f : nextOf (cursorAt b k) ≡ record { number = 0; value = stepGiven (kthTile b k) (cursorAt b (suc k)) } =
+    next-gives b k i (omega arith) ∙ ap (λ (m : ℕ). record { number = 0; value = stepGiven (kthTile b k) (cursorAt b m) }) (add-one k) in
     rw e (more f (gives-numbered b (suc k) n i (omega arith)))

@@ -16,7 +16,7 @@ use Rattle.errors.specs.Answer.{_when_, _else_}
 use Rattle.errors.specs.Laws.{else-none}
 use Rattle.errors.specs.Memory.{front}
 use Rattle.tile_zbox.specs.Box.{boxAt, IsBox, wrongEdges, flipped, boxLength}
-use Rattle.tile_zbox.specs.Laws.{neither, edges-fine, fine-edges, length-within}
+use Rattle.tile_zbox.specs.Laws.{neither-of-two, edges-fine, fine-edges, length-within}
 use Rattle.tile_zbox.specs.declared.TileZBox.{TileZBox}
 use Rattle.tile_zbox_numbers.specs.Boxes.{deep, refusalOver, boxesRefusal, sumLengths, boxFrom, boxesFrom, boxesOf, numbersRefusal}
 use Rattle.tile_zbox_numbers.specs.Boxes.{numbers, numbersOf, flippedNumbers}
@@ -62,7 +62,7 @@ any-none p = refl
 
 pub none-of : (p : TileZBox → Bool) (b : TileZBox) (bs : List TileZBox) → anyOf p (b ∷ bs) ≡ false → (p b ≡ false) × (anyOf p bs ≡ false)
 unfolding anyOf
-none-of p b bs e = neither (p b) (anyOf p bs) e
+none-of p b bs e = neither-of-two (p b) (anyOf p bs) e
 
 -- boxes of the map, all of them
 pub record Fine (bs : List TileZBox) : Type 0 where

@@ -11,7 +11,7 @@ use Rattle.tile_zbox.specs.Box.{IsBox, boxLength}
 use Rattle.tile_zbox.specs.declared.TileZBox.{TileZBox}
 use Rattle.tile_zbox_iter.specs.Cursor.{kthTile}
 use Rattle.tile_zbox_iter.specs.Theorems.{length-counts-the-tiles}
-use Rattle.tile_zbox_iter.specs.Tiles.{tilesOf, tile-of-box-at}
+use Rattle.tile_zbox_iter.specs.Tiles.{boxTiles, tile-of-box-at}
 use Rattle.tile_zbox_numbers.specs.Boxes.{sumLengths, boxFrom, boxesFrom, boxesOf, numbersRefusal}
 use Rattle.tile_zbox_numbers.specs.Laws.{boxes-step, boxes-end, Fine, fine-first, first-zoom, all-boxes-accepted, accepted-all-boxes, sum-step, sum-none}
 use Rattle.tile_zboxes_iter.specs.Cursor.{tilesOfAll}
@@ -20,18 +20,18 @@ use Rattle.tile_zboxes_iter.specs.Cursor.{tilesOfAll}
 pub as-many-as-the-sum : (bs : List TileZBox) → length (tilesOfAll bs) ≡ sumLengths bs
 unfolding tilesOfAll sumLengths
 as-many-as-the-sum [] = refl
-as-many-as-the-sum (b ∷ bs) = rw (length-append (tilesOf b) (tilesOfAll bs), length-counts-the-tiles b, as-many-as-the-sum bs)
+as-many-as-the-sum (b ∷ bs) = rw (length-append (boxTiles b) (tilesOfAll bs), length-counts-the-tiles b, as-many-as-the-sum bs)
 
 -- a place among the first box's tiles, and one behind them
 pub in-the-first : (b : TileZBox) (bs : List TileZBox) (k : ℕ) → k < boxLength b → getD (tilesOfAll (b ∷ bs)) k noTile ≡ kthTile b k
 unfolding tilesOfAll
-in-the-first b bs k h = List·getD-append (tilesOf b) (tilesOfAll bs) noTile k (rw (length-counts-the-tiles b) h) ∙ tile-of-box-at b k h
+in-the-first b bs k h = List·getD-append (boxTiles b) (tilesOfAll bs) noTile k (rw (length-counts-the-tiles b) h) ∙ tile-of-box-at b k h
 
 pub behind-the-first : (b : TileZBox) (bs : List TileZBox) (k : ℕ) → getD (tilesOfAll (b ∷ bs)) (boxLength b + k) noTile ≡ getD (tilesOfAll bs) k noTile
 unfolding tilesOfAll
 behind-the-first b bs k =
-    ap (λ (n : ℕ). getD (tilesOf b ++ tilesOfAll bs) (n + k) noTile) (sym (length-counts-the-tiles b))
-    ∙ getD-append-add (tilesOf b) (tilesOfAll bs) k noTile
+    ap (λ (n : ℕ). getD (boxTiles b ++ tilesOfAll bs) (n + k) noTile) (sym (length-counts-the-tiles b))
+    ∙ getD-append-add (boxTiles b) (tilesOfAll bs) k noTile
 
 -- numbers that are boxes, and a place among the tiles of these
 pub record Ahead (l : List ℕ) (k : ℕ) : Type 0 where

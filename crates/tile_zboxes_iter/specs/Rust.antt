@@ -13,7 +13,7 @@ use Rattle.tile_zbox_numbers.specs.Boxes.{boxesOf, numbersRefusal}
 use Rattle.tile_zbox_numbers.specs.Laws.{Fine, fine-first, accepted-all-boxes}
 use Rattle.tile_zboxes_iter.specs.Cursor.{boxesCursorAt, tilesOfAll}
 use Rattle.tile_zboxes_iter.specs.Laws.{as-many-as-the-sum}
-use Rattle.tile_zboxes_iter.specs.Theorems.{Gives, every-box-in-its-turn}
+use Rattle.tile_zboxes_iter.specs.Theorems.{BoxesCursorGives, every-box-in-its-turn}
 
 -- `flat_map` of the boxes' iterators, each from its start, collected into one `Vec`
 unfoldable pub rustCollected : ℕ → List TileZBox → List Tile
@@ -34,6 +34,6 @@ rust-collected (b ∷ bs) calls f z h =
 
 -- the `Vec` is then walked from its front to its end: the cursor gives the same tiles in the same order, and no more
 pub rust-into-iter : (l : List ℕ) (calls : ℕ) → numbersRefusal l ≡ 0 → AllTo29 (boxesOf l) → 2 ^ 61 ≤ calls
-    → Gives l (boxesCursorAt 0) (rustCollected calls (boxesOf l)) (boxesCursorAt (length (rustCollected calls (boxesOf l))))
+    → BoxesCursorGives l (boxesCursorAt 0) (rustCollected calls (boxesOf l)) (boxesCursorAt (length (rustCollected calls (boxesOf l))))
 rust-into-iter l calls e z h =
     rw (rust-collected (boxesOf l) calls (accepted-all-boxes l e .fine) z h, as-many-as-the-sum (boxesOf l)) (every-box-in-its-turn l e)

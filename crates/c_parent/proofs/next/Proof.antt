@@ -1,7 +1,7 @@
 -- `next` hands on what the library's `next` answers.
 use mathlib.Core.Path.{sym, ap, _∙_}
 use Rattle.c_parent.specs.Cursor.{nextNumbers}
-use Rattle.parent.specs.Parents.{nextCase, nextOf}
+use Rattle.parent.specs.Parents.{parentsNextCase, parentsNextOf}
 use borrow.Author.Needs.{needs}
 use Rattle.c_parent.proofs.next.Statement.{statement}
 use Rattle.c_parent.proofs.next.Tie as tie
@@ -12,7 +12,7 @@ found c =
     let met = tile .before .before .before .before .before .before .before in
     let asked = met .before .before in
     rw (tile .hold .ensures, c .hold2 .ensures)
-    (ap nextNumbers (sym (ap nextCase (met .next2 .given .1)) ∙ (asked .next .ensures ∙ ap nextOf (asked .before .holding .ensures))))
+    (ap nextNumbers (sym (ap parentsNextCase (met .next2 .given .1)) ∙ (asked .next .ensures ∙ ap parentsNextOf (asked .before .holding .ensures))))
 
 refused : tie.Need-returns-2
 refused c =
@@ -20,7 +20,7 @@ refused c =
     let met = tile .before .before .before .before .before .before in
     let asked = met .before .before in
     rw (c .number .ensures, tile .hold3 .ensures, c .before .hold4 .ensures)
-    (ap nextNumbers (sym (ap nextCase (met .why .given .1)) ∙ (asked .next .ensures ∙ ap nextOf (asked .before .holding .ensures))))
+    (ap nextNumbers (sym (ap parentsNextCase (met .why .given .1)) ∙ (asked .next .ensures ∙ ap parentsNextOf (asked .before .holding .ensures))))
 
 pub next-spec : {M : Type 1} → statement M
 next-spec =

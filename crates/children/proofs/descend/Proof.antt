@@ -13,7 +13,7 @@ use Rattle.errors.specs.Answer.{_when_, _else_}
 use Rattle.errors.specs.Laws.{check-fine, check-refused}
 use Rattle.errors.specs.Memory.{written-refused, written-short, written-done}
 use Rattle.errors.specs.declared.Refusal.the-variants.{Zoom}
-use Rattle.tile.specs.Given.{given}
+use Rattle.tile.specs.Option.{unwrapOr}
 use Rattle.tile.specs.OnMap.{tileRefusal, accepted-on-map}
 use Rattle.children.specs.Children.{familyOf, descendants}
 use Rattle.ids.specs.Entry.{entriesOf}
@@ -22,7 +22,7 @@ use Rattle.children.proofs.descend.Statement.{statement}
 use Rattle.children.proofs.descend.Tie as tie
 
 abbrev target : tie.Start → ℕ
-target s = given (s .args .zoom) (s .args .z + 1)
+target s = unwrapOr (s .args .zoom) (s .args .z + 1)
 
 abbrev refusal : tie.Start → ℕ
 refusal s = tileRefusal (s .args .x) (s .args .y) (s .args .z)

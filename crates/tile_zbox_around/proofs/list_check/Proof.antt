@@ -8,7 +8,7 @@ use Rattle.bits.specs.Tests.{allOf}
 use Rattle.constants.specs.Limits.{maxEntries}
 use Rattle.ids.specs.Entry.{isEntry}
 use Rattle.tile.specs.declared.Tile.{Tile}
-use Rattle.tile_zbox_around.specs.Around.{ofZoom, firstZoom}
+use Rattle.tile_zbox_around.specs.Around.{ofZoom, zoomOfFirst}
 use Rattle.tile_zbox_around.specs.Laws.{entry-at, list-long, list-stranger, list-empty, list-mixed, one-zoom-accepted}
 use Rattle.tile_zbox_around.proofs.list_check.Statement.{statement}
 use Rattle.tile_zbox_around.proofs.list_check.Tie as tie
@@ -41,7 +41,7 @@ all-of-zoom-requires : tie.Need-all-of-zoom-requires
 all-of-zoom-requires c κs = entries (c .before .before .before)
 
 zooms : (c : tie.After-all-of-zoom)
-    → allOf (ofZoom (firstZoom (c .before .before .before .before .before .before .before .before .args .list .now)))
+    → allOf (ofZoom (zoomOfFirst (c .before .before .before .before .before .before .before .before .args .list .now)))
     (c .before .before .before .before .before .before .before .before .args .list .now) ≡ c .all-of-zoom .result
 zooms c = let l = c .before .before .before .before .before .before .before .before .args .list .now in
     sym (c .all-of-zoom .ensures ∙ ap (λ (t : Tile). allOf (ofZoom (t .z)) l) (c .before .listed .ensures))
