@@ -1,8 +1,9 @@
-// What the exported calls of quadkey.rs do: each asks the crate `quadkey` and hands the answer on in numbers.
+// What the exported calls of quadkey.rs do: each asks the crates `quadkey` and `key_parts`, and hands the answer on in numbers.
 ghost use mathlib.Core.Path.{_≡_};
 ghost use Rattle.c_give.specs.Exported.{answered, asByte, given, never};
 ghost use Rattle.c_quadkey.specs.Part.{partLength};
-ghost use Rattle.quadkey.specs.Key.{ancestorRefusal, flipWritten, isDigit, isKey, keyRefusal, keyTile, keyWritten, leadingPart, sharedLength, sharedRefusal};
+ghost use Rattle.key_parts.specs.Parts.{ancestorRefusal, leadingPart, sharedLength, sharedRefusal};
+ghost use Rattle.quadkey.specs.Key.{flipWritten, isDigit, isKey, keyRefusal, keyTile, keyWritten};
 ghost use Rattle.tile.specs.OnMap.{tileAt};
 
 pub fn xyz2quadkey(x: u32, y: u32, z: u8, out: &mut [u8], count: &mut u64) -> u8
@@ -54,9 +55,9 @@ pub fn ancestor_key(key: &[u8], n: usize, length: &mut u64) -> u8
     ensures { λ r. ⌜ answered r (now (length .exit))
         ≡ partLength (ancestorRefusal (now (key .entry)) n) (leadingPart (key .entry) (ancestorRefusal (now (key .entry)) n) n) ⌝ }
 {
-    let part = quadkey::ancestor_key(key, n);
+    let part = key_parts::ancestor_key(key, n);
     *length = part.len() as u64;
-    quadkey::ancestor_key_refusal(key, n)
+    key_parts::ancestor_key_refusal(key, n)
 }
 
 pub fn shared_key(a: &[u8], b: &[u8], length: &mut u64) -> u8
@@ -64,7 +65,7 @@ pub fn shared_key(a: &[u8], b: &[u8], length: &mut u64) -> u8
         ≡ partLength (sharedRefusal (now (a .entry)) (now (b .entry)))
         (leadingPart (a .entry) (sharedRefusal (now (a .entry)) (now (b .entry))) (sharedLength (now (a .entry)) (now (b .entry)))) ⌝ }
 {
-    let part = quadkey::shared_key(a, b);
+    let part = key_parts::shared_key(a, b);
     *length = part.len() as u64;
-    quadkey::shared_key_refusal(a, b)
+    key_parts::shared_key_refusal(a, b)
 }

@@ -2,7 +2,8 @@
 ghost use mathlib.Core.Path.{_≡_};
 ghost use Rattle.c_give.specs.Exported.{answered, asByte, given, never};
 ghost use Rattle.c_quadkey.specs.Part.{partLength};
-ghost use Rattle.quadkey.specs.Key.{ancestorRefusal, flipWritten, isDigit, isKey, keyRefusal, keyTile, keyWritten, leadingPart, sharedLength, sharedRefusal};
+ghost use Rattle.key_parts.specs.Parts.{ancestorRefusal, leadingPart, sharedLength, sharedRefusal};
+ghost use Rattle.quadkey.specs.Key.{flipWritten, isDigit, isKey, keyRefusal, keyTile, keyWritten};
 ghost use Rattle.tile.specs.OnMap.{tileAt};
 
 // The key of a tile; count is its length, the zoom.

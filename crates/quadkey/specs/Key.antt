@@ -1,10 +1,9 @@
 -- Quadkeys, by the Bing Maps rule: digit 2·(bit of y) + (bit of x), top bit first, as the bytes 48 to 51.
-use mathlib.Core.Bool.{Bool, true, cond, not, _&&_, _||_}
+use mathlib.Core.Bool.{Bool, true, cond, not, _&&_}
 use mathlib.Core.List.{List, [], _∷_, map}
 use Prim.Native.Nat.{ℕ, zero, suc, _+_, _-_, _*_, _^_}
 use lib.Dec.{leb, ltb, eqb}
-use lib.ListN.{length, take}
-use denote.Ref.{RefT, ptr, now}
+use lib.ListN.{length}
 use Rattle.bits.specs.Bits.{bit}
 use Rattle.constants.specs.Limits.{maxZoom}
 use Rattle.errors.specs.Answer.{Answer, Lent, answer, written, _when_, _else_}
@@ -46,6 +45,10 @@ columnOf = spelled 0
 abbrev pub rowOf : List ℕ → ℕ
 rowOf = spelled 1
 
+-- the tile that a key spells
+abbrev pub tileOf : List ℕ → Tile
+tileOf key = tileAt (columnOf key) (rowOf key) (length key)
+
 -- the promises
 
 abbrev pub keyWritten : ℕ → ℕ → ℕ → ℕ → List ℕ → Lent ℕ
@@ -63,23 +66,3 @@ flipDigit b = cond (ltb b 50) (b + 2) (b - 2)
 
 abbrev pub flipWritten : List ℕ → List ℕ → Lent ℕ
 flipWritten key memory = written (keyRefusal key) (map flipDigit key) memory
-
--- an ancestor's key of n digits: 3 past the key's own length, which is tested first
-abbrev pub ancestorRefusal : List ℕ → ℕ → ℕ
-ancestorRefusal key n = 3 when ltb (length key) n else keyRefusal key
-
--- how many leading bytes two keys share
-unfoldable pub sharedLength : List ℕ → List ℕ → ℕ
-sharedLength [] t = 0
-sharedLength (a ∷ s) [] = 0
-sharedLength (a ∷ s) (b ∷ t) = cond (eqb a b) (suc (sharedLength s t)) 0
-
--- of two keys the lowest number over both
-abbrev pub sharedRefusal : List ℕ → List ℕ → ℕ
-sharedRefusal a b = 4 when (ltb maxZoom (length a) || ltb maxZoom (length b)) else 5 when (not (allDigits a) || not (allDigits b))
-
--- the part of the caller's own bytes that is handed back: where it starts, and its bytes.
--- It starts where the key does; it has n bytes, and none where the call is refused
-abbrev pub leadingPart : RefT (List ℕ) → ℕ → ℕ → (ℕ × ℕ) × List ℕ
-leadingPart key zero n = (ptr key, take n (now key))
-leadingPart key (suc refusal) n = (ptr key, [])

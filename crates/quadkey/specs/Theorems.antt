@@ -3,14 +3,12 @@ use mathlib.Core.Path.{_≡_, refl, sym, ap, _∙_}
 use mathlib.Core.Logic.{_↔_, _⊎_}
 use mathlib.Core.Bool.{true}
 use mathlib.Core.List.{List, [], map}
-use Prim.Native.Nat.{ℕ, zero, suc, _+_, _-_, _*_, _/_, _^_, _≤_, _<_}
+use Prim.Native.Nat.{ℕ, zero, suc, _+_, _-_, _*_, _^_, _≤_, _<_}
 use native.Mathlib.Nat.{mod-eq-of-lt}
-use native.Mathlib.Numerals.{add-one}
 use native.Mathlib.Omega.{arith}
-use lib.ListN.{length, take, getD}
+use lib.ListN.{length, getD}
 use lib.Pow.{areBytes}
-use lib.Seq.{length-take-le}
-use borrow.Author.Tests.{le-leb, lt-ltb}
+use borrow.Author.Tests.{le-leb}
 use Rattle.bits.specs.Bits.{bit}
 use Rattle.bits.specs.Checked.{returns}
 use Rattle.constants.specs.Limits.{maxZoom}
@@ -19,14 +17,13 @@ use Rattle.tile.specs.OnMap.{OnMap, tileAt, noTile, on-map-accepted}
 use Rattle.tile.specs.Rust.{To29}
 use Rattle.tile.specs.Steps.{flipOf}
 use Rattle.tile.specs.declared.Tile.{Tile}
-use Rattle.quadkey.specs.Key.{keyFrom, keyOf, isDigit, allDigits, flipDigit, spelled, columnOf, rowOf, keyTile}
-use Rattle.quadkey.specs.Key.{isKey, keyRefusal, ancestorRefusal, sharedLength, sharedRefusal}
-use Rattle.quadkey.specs.Laws.{key-length, key-digit, key-digits, key-again, key-above, key-flipped, flip-twice}
+use Rattle.quadkey.specs.Key.{keyFrom, keyOf, isDigit, allDigits, keyRefusal, isKey, flipDigit}
+use Rattle.quadkey.specs.Key.{spelled, columnOf, rowOf, tileOf, keyTile}
+use Rattle.quadkey.specs.Laws.{key-length, key-digit, key-digits, key-again, key-flipped, flip-twice}
 use Rattle.quadkey.specs.Laws.{key-accepted, key-bad-byte, key-too-long, accepted-key, refused-long, refused-byte}
 use Rattle.quadkey.specs.Laws.{digit-bounds, digits-at, all-digits, some-bad, digits-bad, digit-out}
-use Rattle.quadkey.specs.Laws.{spelled-column, spelled-row, spelled-small, ancestor-accepted, shared-within, shared-accepted}
+use Rattle.quadkey.specs.Laws.{spelled-column, spelled-row, spelled-small}
 use Rattle.quadkey.specs.Bing.{base4, base4-small, bytes-of-digits, even-bit, odd-bit}
-use Rattle.quadkey.specs.Ancestor.{Ancestor, tileOf, above-part, shared-above-first, shared-above-second, shared-deepest}
 use Rattle.quadkey.specs.Rust as rust
 
 -- a call that is not refused and answers with this tile
@@ -85,45 +82,6 @@ five-is-a-bad-byte key = (
   λ e. let r = refused-byte key e in let b = some-bad key (r .1) in (r .0, (b .0, b .1, digit-out (getD key (b .0) 0) .0 (b .2))),
   λ r. key-bad-byte key (r .0) (digits-bad key (r .1 .0) (r .1 .1) (digit-out (getD key (r .1 .0) 0) .1 (r .1 .2))),
 )
-
--- the key of a parent is the key without its last digit
-pub the-parents-key : (x y z : ℕ) → keyOf (x / 2) (y / 2) z ≡ take z (keyOf x y (suc z))
-the-parents-key x y z = rw (← add-one z) (key-above 48 x y z 1)
-
--- and n zooms up, without its last n digits
-pub the-key-above : (x y z n : ℕ) → keyOf (x / 2 ^ n) (y / 2 ^ n) z ≡ take z (keyOf x y (z + n))
-the-key-above x y z n = key-above 48 x y z n
-
--- "an ancestor's key is the leading part of the caller's own bytes, for a length up to the key's":
--- n digits are the key of the tile at zoom n, which is the ancestor of the key's tile
-pub an-ancestors-key : (key : List ℕ) (n : ℕ) → ancestorRefusal key n ≡ 0
-    → (take n key ≡ keyOf (columnOf key / 2 ^ (length key - n)) (rowOf key / 2 ^ (length key - n)) n)
-    × Ancestor (tileAt (columnOf key / 2 ^ (length key - n)) (rowOf key / 2 ^ (length key - n)) n) (tileOf key)
-an-ancestors-key key n e =
-    let h = ancestor-accepted key n e in
-    let up = length key - n in
-    let above = tileAt (columnOf key / 2 ^ up) (rowOf key / 2 ^ up) n in
-    let a : Ancestor above (tileOf key) = record { zoom = h .0; column = refl; row = refl } in
-    (sym (above-part _ key (accepted-key key (h .1) .1) a), a)
-
--- "(longer is 3)", which is tested before the key
-pub longer-is-three : (key : List ℕ) (n : ℕ) → length key < n → ancestorRefusal key n ≡ 3
-longer-is-three key n h = rw (lt-ltb _ _ h)
-
--- "of two keys, the key of their deepest shared ancestor is handed back as a part of the first":
--- the tile of that part is an ancestor of both tiles, and every tile that is has no deeper zoom
-pub the-deepest-shared-ancestor : (a b : List ℕ) → sharedRefusal a b ≡ 0
-    → Ancestor (tileOf (take (sharedLength a b) a)) (tileOf a)
-    × Ancestor (tileOf (take (sharedLength a b) a)) (tileOf b)
-    × ((s : Tile) → Ancestor s (tileOf a) → Ancestor s (tileOf b) → s .z ≤ tileOf (take (sharedLength a b) a) .z)
-the-deepest-shared-ancestor a b e =
-    let k = shared-accepted a b .0 e in
-    let l : length (take (sharedLength a b) a) ≡ sharedLength a b = length-take-le (sharedLength a b) a (shared-within a b) in
-    (shared-above-first a b, shared-above-second a b, rw l (shared-deepest a b (accepted-key a (k .0) .1) (accepted-key b (k .1) .1)))
-
--- two keys are refused together where one of them is
-pub two-keys-accepted : (a b : List ℕ) → sharedRefusal a b ≡ 0 ↔ (keyRefusal a ≡ 0) × (keyRefusal b ≡ 0)
-two-keys-accepted = shared-accepted
 
 -- "0 and 2 change places, 1 and 3": the key of the tile whose row is counted from the other side
 pub the-flipped-key : (x y z : ℕ) → OnMap x y z → map flipDigit (keyOf x y z) ≡ keyOf x (2 ^ z - 1 - y) z

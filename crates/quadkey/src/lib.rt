@@ -1,4 +1,4 @@
-// Quadkeys: a tile's key, a key's tile, and the keys of ancestors as parts of the caller's own bytes.
+// Quadkeys: a tile's key, a key's tile, and the key flipped.
 use constants::MAX_ZOOM;
 use errors::Check;
 use errors::Count;
@@ -8,14 +8,13 @@ use tile::TileAnswer;
 ghost use mathlib.Core.Path.{_≡_};
 ghost use mathlib.Core.Bool.{true};
 ghost use mathlib.Core.List.{_++_, map};
-ghost use Prim.Native.Nat.{_+_, _≤_, _<_};
+ghost use Prim.Native.Nat.{_≤_, _<_};
 ghost use lib.ListN.{length, drop};
-ghost use denote.Ref.{ptr};
 ghost use Rattle.constants.specs.Limits.{maxZoom};
 ghost use Rattle.errors.specs.Cases.{checkNumber, left};
 ghost use Rattle.tile.specs.OnMap.{tileCase};
 ghost use Rattle.quadkey.specs.Key.{digitAt, keyFrom, keyWritten, isDigit, allDigits, keyRefusal, isKey, keyTile, flipDigit};
-ghost use Rattle.quadkey.specs.Key.{flipWritten, ancestorRefusal, sharedLength, sharedRefusal, leadingPart};
+ghost use Rattle.quadkey.specs.Key.{flipWritten};
 
 pub fn is_quadkey_byte(b: u8) -> bool
     ensures { λ r. ⌜ r ≡ isDigit b ⌝ }
@@ -168,86 +167,4 @@ fn flipped(b: u8) -> u8
     ensures { λ r. ⌜ r ≡ flipDigit b ⌝ }
 {
     if b < b'2' { b + 2 } else { b - 2 }
-}
-
-// The key of the ancestor with n digits: the leading part of the caller's own bytes. Empty where it is refused.
-pub fn ancestor_key<'a>(key: &'a [u8], n: usize) -> &'a [u8]
-    ensures { λ r. ⌜ (ptr r, now r) ≡ leadingPart (key .entry) (ancestorRefusal (now (key .entry)) n) n ⌝ }
-{
-    match ancestor_check(key, n) {
-        Check::Fine => &key[..n],
-        Check::Refused(_) => &key[..0],
-    }
-}
-
-// The number of the refusal of `ancestor_key` on the same arguments; 0 where nothing is refused.
-pub fn ancestor_key_refusal(key: &[u8], n: usize) -> u8
-    ensures { λ r. ⌜ r ≡ ancestorRefusal (now (key .entry)) n ⌝ }
-{
-    number(ancestor_check(key, n))
-}
-
-fn ancestor_check(key: &[u8], n: usize) -> Check
-    ensures { λ r. ⌜ checkNumber r ≡ ancestorRefusal (now (key .entry)) n ⌝ }
-{
-    if key.len() < n {
-        return Check::Refused(Refusal::NoRelative);
-    }
-    check(key)
-}
-
-fn number(r: Check) -> u8
-    ensures { λ n. ⌜ n ≡ checkNumber r ⌝ }
-{
-    match r {
-        Check::Fine => 0,
-        Check::Refused(why) => errors::number(why),
-    }
-}
-
-// The key of the deepest ancestor that two keys share: a part of the first key. Empty where it is refused.
-pub fn shared_key<'a, 'b>(a: &'a [u8], b: &'b [u8]) -> &'a [u8]
-    ensures { λ r. ⌜ (ptr r, now r) ≡ leadingPart (a .entry) (sharedRefusal (now (a .entry)) (now (b .entry)))
-        (sharedLength (now (a .entry)) (now (b .entry))) ⌝ }
-{
-    match shared_check(a, b) {
-        Check::Fine => {
-            let n = shared_length(a, b);
-            &a[..n]
-        }
-        Check::Refused(_) => &a[..0],
-    }
-}
-
-// The number of the refusal of `shared_key` on the same arguments; 0 where nothing is refused.
-pub fn shared_key_refusal(a: &[u8], b: &[u8]) -> u8
-    ensures { λ r. ⌜ r ≡ sharedRefusal (now (a .entry)) (now (b .entry)) ⌝ }
-{
-    number(shared_check(a, b))
-}
-
-// The lowest number over both keys: lengths first, then bytes.
-fn shared_check(a: &[u8], b: &[u8]) -> Check
-    ensures { λ r. ⌜ checkNumber r ≡ sharedRefusal (now (a .entry)) (now (b .entry)) ⌝ }
-{
-    if b.len() > MAX_ZOOM as usize {
-        return Check::Refused(Refusal::KeyLength);
-    }
-    match check(a) {
-        Check::Fine => check(b),
-        Check::Refused(why) => Check::Refused(why),
-    }
-}
-
-fn shared_length(a: &[u8], b: &[u8]) -> usize
-    ensures { λ r. ⌜ r ≡ sharedLength (now (a .entry)) (now (b .entry)) ⌝ }
-{
-    let mut i = 0;
-    while i < a.len() && i < b.len() {
-        if a[i] != b[i] {
-            return i;
-        }
-        i += 1;
-    }
-    i
 }

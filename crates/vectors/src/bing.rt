@@ -152,18 +152,18 @@ pub fn leading_parts(before: Tally) -> Tally {
     t = tally::told(
         t,
         b"13",
-        text::put(text::none(), quadkey::ancestor_key(b"130", 2)),
+        text::put(text::none(), key_parts::ancestor_key(b"130", 2)),
     );
     tally::asked(b"what 130 and 133 share, the key of their parent");
     t = tally::told(
         t,
         b"13",
-        text::put(text::none(), quadkey::shared_key(b"130", b"133")),
+        text::put(text::none(), key_parts::shared_key(b"130", b"133")),
     );
     tally::asked(b"what 20 and 21 share, the key of their parent");
     tally::told(
         t,
         b"2",
-        text::put(text::none(), quadkey::shared_key(b"20", b"21")),
+        text::put(text::none(), key_parts::shared_key(b"20", b"21")),
     )
 }

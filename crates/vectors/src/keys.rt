@@ -25,8 +25,8 @@ fn ancestor(t: Tally, key: &[u8], n: usize, says: &[u8]) -> Tally {
     io::print_decimal(1, n as u64);
     io::write_all(1, b" digits of ");
     io::write_all(1, key);
-    let refused = quadkey::ancestor_key_refusal(key, n);
-    tally::told(t, says, part(refused, quadkey::ancestor_key(key, n)))
+    let refused = key_parts::ancestor_key_refusal(key, n);
+    tally::told(t, says, part(refused, key_parts::ancestor_key(key, n)))
 }
 
 pub fn shared(before: Tally) -> Tally {
@@ -46,8 +46,8 @@ fn shared_by(t: Tally, a: &[u8], b: &[u8], says: &[u8]) -> Tally {
     io::write_all(1, b" and ");
     io::write_all(1, b);
     io::write_all(1, b" share");
-    let refused = quadkey::shared_key_refusal(a, b);
-    tally::told(t, says, part(refused, quadkey::shared_key(a, b)))
+    let refused = key_parts::shared_key_refusal(a, b);
+    tally::told(t, says, part(refused, key_parts::shared_key(a, b)))
 }
 
 // The part that is handed back, `-` if it is empty. Behind a refusal stands the part that came with it, which is to be nothing.

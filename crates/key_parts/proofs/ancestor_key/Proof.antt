@@ -1,11 +1,11 @@
--- `quadkey::ancestor_key` meets its contract: the part is cut off the caller's bytes at n, or at 0 where the call is refused.
+-- `key_parts::ancestor_key` meets its contract: the part is cut off the caller's bytes at n, or at 0 where the call is refused.
 use mathlib.Core.Path.{sym}
 use lib.Seq.{length-take-le}
 use borrow.Author.Needs.{needs}
 use Rattle.errors.specs.Laws.{check-fine, check-refused}
-use Rattle.quadkey.specs.Laws.{ancestor-within, part-handed, part-refused}
-use Rattle.quadkey.proofs.ancestor_key.Statement.{statement}
-use Rattle.quadkey.proofs.ancestor_key.Tie as tie
+use Rattle.key_parts.specs.Laws.{ancestor-within, part-handed, part-refused}
+use Rattle.key_parts.proofs.ancestor_key.Statement.{statement}
+use Rattle.key_parts.proofs.ancestor_key.Tie as tie
 
 ancestor-check-requires : tie.Need-ancestor-check-requires
 ancestor-check-requires c κs = search needs

@@ -5,20 +5,17 @@ use mathlib.Core.List.{List}
 use Prim.Native.Nat.{ℕ, _-_, _/_, _^_, _≤_}
 use lib.ListN.{length, take}
 use lib.Seq.{length-take-le}
-use Rattle.tile.specs.OnMap.{tileAt}
 use Rattle.tile.specs.declared.Tile.{Tile}
-use Rattle.quadkey.specs.Key.{keyOf, allDigits, columnOf, rowOf, sharedLength}
-use Rattle.quadkey.specs.Laws.{key-again, digits-take, spelled-take, shared-within, shared-within-second, shared-same, shared-longest}
+use Rattle.quadkey.specs.Key.{keyOf, allDigits, tileOf}
+use Rattle.quadkey.specs.Laws.{key-again}
+use Rattle.key_parts.specs.Parts.{sharedLength}
+use Rattle.key_parts.specs.Laws.{digits-take, spelled-take, shared-within, shared-within-second, shared-same, shared-longest}
 
 -- s is t or one of its ancestors: t's x and y, divided by as many twos as zooms lie between, remainders dropped, are its x and y
 pub record Ancestor (s t : Tile) : Type 0 where
   pub zoom : s .z ≤ t .z
   pub column : t .x / 2 ^ (t .z - s .z) ≡ s .x
   pub row : t .y / 2 ^ (t .z - s .z) ≡ s .y
-
--- the tile that a key spells
-abbrev pub tileOf : List ℕ → Tile
-tileOf key = tileAt (columnOf key) (rowOf key) (length key)
 
 pub part-above : (key : List ℕ) (n : ℕ) → n ≤ length key → Ancestor (tileOf (take n key)) (tileOf key)
 part-above key n h =

@@ -1,14 +1,14 @@
--- `quadkey::shared_length` meets its contract: what is shared is the i bytes passed and what is shared from i on.
+-- `key_parts::shared_length` meets its contract: what is shared is the i bytes passed and what is shared from i on.
 use mathlib.Core.Path.{_≡_, sym, _∙_}
 use Prim.Native.Nat.{_+_, _-_, _≤_, _<_}
 use native.Mathlib.Omega.{arith}
 use lib.ListN.{length, drop}
 use borrow.Author.Tests.{ltb-true, ltb-false}
 use borrow.Author.Needs.{needs}
-use Rattle.quadkey.specs.Key.{sharedLength}
-use Rattle.quadkey.specs.Laws.{shared-more, shared-stop, shared-end-first, shared-end-second}
-use Rattle.quadkey.proofs.shared_length.Statement.{statement}
-use Rattle.quadkey.proofs.shared_length.Tie as tie
+use Rattle.key_parts.specs.Parts.{sharedLength}
+use Rattle.key_parts.specs.Laws.{shared-more, shared-stop, shared-end-first, shared-end-second}
+use Rattle.key_parts.proofs.shared_length.Statement.{statement}
+use Rattle.key_parts.proofs.shared_length.Tie as tie
 
 abbrev Inv-loop : tie.InvT-loop
 Inv-loop a b i₀ i = (i ≤ length a) × (i ≤ length b) × (sharedLength a b ≡ i + sharedLength (drop i a) (drop i b))

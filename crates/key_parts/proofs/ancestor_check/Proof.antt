@@ -1,8 +1,8 @@
--- `quadkey::ancestor_check` meets its contract: the length asked for is tested before the key.
+-- `key_parts::ancestor_check` meets its contract: the length asked for is tested before the key.
 use borrow.Author.Tests.{lt-ltb, le-ltb}
 use borrow.Author.Needs.{needs}
-use Rattle.quadkey.proofs.ancestor_check.Statement.{statement}
-use Rattle.quadkey.proofs.ancestor_check.Tie as tie
+use Rattle.key_parts.proofs.ancestor_check.Statement.{statement}
+use Rattle.key_parts.proofs.ancestor_check.Tie as tie
 
 returns : tie.Need-returns
 returns c = rw (lt-ltb _ _ (c .if1 .taken))

@@ -1,11 +1,11 @@
--- `quadkey::shared_key` meets its contract: the part is cut off the first key where the two part, or at 0 where the call is refused.
+-- `key_parts::shared_key` meets its contract: the part is cut off the first key where the two part, or at 0 where the call is refused.
 use mathlib.Core.Path.{sym}
 use lib.Seq.{length-take-le}
 use borrow.Author.Needs.{needs}
 use Rattle.errors.specs.Laws.{check-fine, check-refused}
-use Rattle.quadkey.specs.Laws.{shared-within, part-handed, part-refused}
-use Rattle.quadkey.proofs.shared_key.Statement.{statement}
-use Rattle.quadkey.proofs.shared_key.Tie as tie
+use Rattle.key_parts.specs.Laws.{shared-within, part-handed, part-refused}
+use Rattle.key_parts.proofs.shared_key.Statement.{statement}
+use Rattle.key_parts.proofs.shared_key.Tie as tie
 
 shared-check-requires : tie.Need-shared-check-requires
 shared-check-requires c κs = search needs

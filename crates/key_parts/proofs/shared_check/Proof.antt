@@ -1,11 +1,11 @@
--- `quadkey::shared_check` meets its contract: once the second key is short enough, the first key's number decides, then the second's.
+-- `key_parts::shared_check` meets its contract: once the second key is short enough, the first key's number decides, then the second's.
 use mathlib.Core.Path.{sym, _∙_}
 use borrow.Author.Needs.{needs}
 use Rattle.constants.specs.Limits.{maxZoom}
 use Rattle.errors.specs.Laws.{check-fine, check-refused, never-zero}
-use Rattle.quadkey.specs.Laws.{shared-long, shared-first, shared-second}
-use Rattle.quadkey.proofs.shared_check.Statement.{statement}
-use Rattle.quadkey.proofs.shared_check.Tie as tie
+use Rattle.key_parts.specs.Laws.{shared-long, shared-first, shared-second}
+use Rattle.key_parts.proofs.shared_check.Statement.{statement}
+use Rattle.key_parts.proofs.shared_check.Tie as tie
 
 cast-if1 : tie.Need-cast-if1
 cast-if1 c = search needs
