@@ -8,7 +8,8 @@ ghost use Rattle.c_give.specs.Exported.{answered, asByte, given, never};
 ghost use Rattle.c_fns.specs.Limits.{limitsAt};
 ghost use Rattle.children.specs.Children.{childrenOf, clockwise, zOrder};
 ghost use Rattle.fns.specs.Fns.{bbox2zoomOf, flipyOf, isTile, minMaxCase, minMaxOf, parentOf};
-ghost use Rattle.neighbors.specs.Neighbors.{neighborsWritten, siblingsWritten};
+ghost use Rattle.neighbors.specs.Neighbors.{neighborsWritten};
+ghost use Rattle.siblings.specs.Siblings.{siblingsWritten};
 ghost use Rattle.tile.specs.OnMap.{tileAt};
 
 pub fn minmax(zoom: u8, min: &mut u32, max: &mut u32) -> u8
@@ -76,7 +77,7 @@ pub fn children1_zorder(x: u32, y: u32, z: u8, out: &mut [u64], count: &mut u64)
 pub fn siblings(x: u32, y: u32, z: u8, out: &mut [u64], count: &mut u64) -> u8
     ensures { λ r. ⌜ given r (now (count .exit)) (now (out .exit)) ≡ siblingsWritten x y z (now (out .entry)) ⌝ }
 {
-    let answer = neighbors::siblings(x, y, z, out);
+    let answer = siblings::siblings(x, y, z, out);
     c_give::count(answer, count)
 }
 

@@ -9,18 +9,20 @@ use native.Mathlib.Numerals.{add-one}
 use native.Mathlib.Omega.{arith}
 use lib.Dec.{leb, ltb, eqb}
 use lib.IntN.{ℤ, pos, negsuc, _+ℤ_}
-use lib.Pow.{pow-mono, pow-pos}
+use lib.Pow.{pow-pos}
 use lib.Signed.{ltZ, leZ}
 use borrow.Author.Tests.{le-leb, lt-leb, le-ltb, lt-ltb, eqb-true, eqb-false}
-use Rattle.bits.specs.Checked.{returns, fits, minus-fits, one-shifted}
+use Rattle.bits.specs.Checked.{returns, minus-fits, one-shifted}
 use Rattle.children.specs.Children.{gather}
 use Rattle.children.specs.Rust.{vec}
+use Rattle.siblings.specs.Laws.{side-most, next}
+use Rattle.siblings.specs.Rust.{rustTiles}
 use Rattle.tile.specs.OnMap.{tileAt}
 use Rattle.tile.specs.Rust.{To29, rustAlong}
-use Rattle.tile.specs.declared.Step.the-variants.{Back, On}
+use Rattle.tile.specs.declared.Step.the-variants.{Back}
 use Rattle.tile.specs.declared.Tile.{Tile}
 use Rattle.neighbors.specs.Neighbors.{around, aroundWrapped, inside, near, nearWrapped}
-use Rattle.neighbors.specs.Rust.{rustTiles, neighborsArm, remEuclid, asU32, plusI64, wrapStep, wrapSteps, wrapTiles, armBy, tilesAt, kept, struck}
+use Rattle.neighbors.specs.Rust.{neighborsArm, remEuclid, asU32, plusI64, wrapStep, wrapSteps, wrapTiles, armBy, tilesAt, kept, struck}
 use Rattle.neighbors.specs.Laws.{below-one, near-off-row}
 
 -- where all tiles are on the map, none is struck out
@@ -36,13 +38,7 @@ none-struck (t ∷ ts) w = rw (lt-ltb _ _ (w .0), lt-ltb _ _ (w .1)) (ap (λ (l 
 inside-is : (side n s a : ℕ) → n + s ≡ a + 1 → inside side n s ≡ ltb a side
 inside-is side n s a e = let h : 1 ≤ a + 1 = omega arith in rw (e, le-leb 1 (a + 1) h, add-one a)
 
-pub side-most : {z : ℕ} → z ≤ 29 → 2 ^ z ≤ 2 ^ 29
-side-most h = pow-mono {j = 29} h
-
--- n + 1, and n - 1 where n is not 0
-pub next : (n : ℕ) → n < 2 ^ 29 → rustAlong On n ≡ returns (n + 1)
-next n h = fits 32 (n + 1) (omega arith)
-
+-- n - 1 where n is not 0
 last : (n : ℕ) → eqb n 0 ≡ false → rustAlong Back n ≡ returns (n - 1)
 last n e = minus-fits n 1 (omega (arith, eqb-false n 0 e))
 

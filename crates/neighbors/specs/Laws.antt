@@ -1,9 +1,9 @@
--- Laws of the tiles beside a tile: that they are on the map, and how a list of them fills up.
+-- Laws of the tiles around a tile: that they are on the map, and how a list of them fills up.
 use mathlib.Core.Path.{_≡_, refl, sym, ap, _∙_}
 use mathlib.Core.Bool.{Bool, true, false, cond, _&&_}
 use mathlib.Core.List.{List, [], _∷_, _++_, map-append, append-assoc, append-nil}
 use Prim.Native.Nat.{ℕ, zero, suc, _+_, _-_, _/_, _%_, _^_, _≤_, _<_}
-use native.Mathlib.Nat.{pow-suc, mod-lt, add-zero}
+use native.Mathlib.Nat.{mod-lt, add-zero}
 use native.Mathlib.Numerals.{add-one}
 use native.Mathlib.Omega.{arith}
 use lib.Dec.{leb, ltb}
@@ -20,20 +20,9 @@ use Rattle.errors.specs.Cases.{countCase, left}
 use Rattle.errors.specs.declared.Count.{Count}
 use Rattle.tile.specs.OnMap.{OnMap, tileAt}
 use Rattle.tile.specs.declared.Tile.{Tile}
-use Rattle.neighbors.specs.Neighbors.{other, neighborsOf, inside, nearOf, orderOf, spotTiles, SpotOnMap, pasted}
+use Rattle.neighbors.specs.Neighbors.{neighborsOf, inside, nearOf, orderOf, spotTiles, SpotOnMap, pasted}
 use Rattle.neighbors.specs.declared.Spot.{Spot}
 use Rattle.neighbors.specs.declared.Spot.the-variants.{At, Off}
-
--- the other tiles of a family are on the map
-pub other-small : (n z : ℕ) → 0 < z → n < 2 ^ z → other n < 2 ^ z
-other-small n zero h l = absurd (omega arith)
-other-small n (suc z) h l = omega (arith, pow-suc 2 z)
-
-pub three-places : (a b c : ℕ) (memory : List ℕ) → 3 ≤ length memory → set (set (set memory 0 a) 1 b) 2 c ≡ a ∷ b ∷ c ∷ drop 3 memory
-three-places a b c [] h = absurd (omega arith)
-three-places a b c (p ∷ []) h = absurd (omega arith)
-three-places a b c (p ∷ (q ∷ [])) h = absurd (omega arith)
-three-places a b c (p ∷ (q ∷ (r ∷ memory))) h = refl
 
 pub eight : (wrap : Bool) → length (orderOf wrap) ≡ 8
 eight true = refl

@@ -1,27 +1,17 @@
--- The tiles beside a tile, in the Rust's orders, as document 01 states them.
+-- The tiles around a tile, in the Rust's orders, as document 01 states them.
 use mathlib.Core.Bool.{Bool, true, false, cond, _&&_}
 use mathlib.Core.List.{List, [], _∷_, _++_}
-use Prim.Native.Nat.{ℕ, zero, suc, _+_, _-_, _*_, _/_, _%_, _^_}
-use lib.Dec.{leb, eqb}
+use Prim.Native.Nat.{ℕ, zero, suc, _+_, _-_, _/_, _%_, _^_}
+use lib.Dec.{leb}
 use lib.ListN.{length, take, drop}
 use Rattle.children.specs.Children.{gather}
 use Rattle.ids.specs.Entry.{entriesOf}
-use Rattle.errors.specs.Answer.{Lent, written, _when_, _else_}
+use Rattle.errors.specs.Answer.{Lent, written}
+use Rattle.siblings.specs.Siblings.{siblingsOf}
 use Rattle.tile.specs.OnMap.{OnMap, tileAt, tileRefusal}
 use Rattle.tile.specs.declared.Tile.{Tile}
 use Rattle.neighbors.specs.declared.Spot.{Spot}
 use Rattle.neighbors.specs.declared.Spot.the-variants.{At, Off}
-
--- the other column, or row, of a family: 2k and 2k + 1 stand for each other
-abbrev pub other : ℕ → ℕ
-other n = 2 * (n / 2) + (1 - n % 2)
-
--- beside it, above or below it, and across
-abbrev pub siblingsOf : ℕ → ℕ → ℕ → List Tile
-siblingsOf x y z = tileAt (other x) y z ∷ tileAt x (other y) z ∷ tileAt (other x) (other y) z ∷ []
-
-abbrev pub siblingsWritten : ℕ → ℕ → ℕ → List ℕ → Lent ℕ
-siblingsWritten x y z memory = written (tileRefusal x y z else 3 when eqb z 0) (entriesOf (siblingsOf x y z)) memory
 
 -- the orders in which the square of nine around a tile is gone through. Its places are numbered column by column:
 --     0 3 6

@@ -1,4 +1,4 @@
-// The tiles beside a tile, as list entries: its siblings, its neighbours, and its neighbours on a map that wraps in x.
+// The tiles around a tile, as list entries: its neighbours, and its neighbours on a map that wraps in x.
 use errors::Check;
 use errors::Count;
 use errors::Refusal;
@@ -13,7 +13,7 @@ ghost use Rattle.errors.specs.Cases.{countCase, left};
 ghost use Rattle.tile.specs.OnMap.{OnMap, tileRefusal};
 ghost use Rattle.children.specs.Children.{gather};
 ghost use Rattle.ids.specs.Entry.{entriesOf};
-ghost use Rattle.neighbors.specs.Neighbors.{other, siblingsWritten, orderOf, nearOf, spotTiles, neighborsWritten, aroundWritten, SpotOnMap, pasted};
+ghost use Rattle.neighbors.specs.Neighbors.{orderOf, nearOf, spotTiles, neighborsWritten, aroundWritten, SpotOnMap, pasted};
 
 // The places of the square of nine around a tile, numbered column by column from 0; the tile itself is place 4.
 const AROUND: [u8; 8] = [7, 5, 8, 1, 3, 0, 6, 2];
@@ -24,31 +24,6 @@ const AROUND_WRAPPED: [u8; 8] = [0, 1, 2, 3, 5, 6, 7, 8];
 pub enum Spot {
     At { x: u32, y: u32 },
     Off,
-}
-
-pub fn siblings(x: u32, y: u32, z: u8, out: &mut [u64]) -> Count
-    ensures { λ r. ⌜ left r (now (out .exit)) ≡ siblingsWritten x y z (now (out .entry)) ⌝ }
-{
-    if let Check::Refused(why) = tile::check(x, y, z) {
-        return Count::Refused(why);
-    }
-    if z == 0 {
-        return Count::Refused(Refusal::NoRelative);
-    }
-    if out.len() < 3 {
-        return Count::Refused(Refusal::Memory);
-    }
-    out[0] = ids::entry(beside(x), y, z);
-    out[1] = ids::entry(x, beside(y), z);
-    out[2] = ids::entry(beside(x), beside(y), z);
-    Count::Counted(3)
-}
-
-// The other column, or row, of a family.
-fn beside(n: u32) -> u32
-    ensures { λ r. ⌜ r ≡ other n ⌝ }
-{
-    if n % 2 == 0 { n + 1 } else { n - 1 }
 }
 
 pub fn neighbors(x: u32, y: u32, z: u8, out: &mut [u64]) -> Count
@@ -69,7 +44,7 @@ fn near(wrap: bool, x: u32, y: u32, z: u8, out: &mut [u64]) -> Count
 {
     match z {
         0 => none(x, y, z),
-        1 => siblings(x, y, z, out),
+        1 => siblings::siblings(x, y, z, out),
         _ => around(wrap, x, y, z, out),
     }
 }

@@ -11,7 +11,8 @@ ghost use Rattle.fns.specs.Fns.{bbox2zoomOf, flipyOf, isTile, minMaxOf, parentO
 ghost use Rattle.ids.specs.Entry.{entryOf, entryTileOf};
 ghost use Rattle.ids.specs.Id.{fromIdOf, toIdOf};
 ghost use Rattle.ids.specs.Rmid.{fromRmidOf, offsetZoomOf, toRmidOf};
-ghost use Rattle.neighbors.specs.Neighbors.{neighborsWritten, siblingsWritten};
+ghost use Rattle.neighbors.specs.Neighbors.{neighborsWritten};
+ghost use Rattle.siblings.specs.Siblings.{siblingsWritten};
 ghost use Rattle.tile.specs.OnMap.{tileAt, tileRefusal};
 
 // The first and the last column, and row, of a zoom: 0 and 2^zoom - 1.

@@ -12,7 +12,8 @@ use Rattle.ids.specs.Entry.{entriesOf}
 use Rattle.ids.specs.Id.{idOf, toIdOf}
 use Rattle.ids.specs.Rmid.{levelStart, toRmidOf}
 use Rattle.merge.specs.Merge.{simplifyV1Of, simplifyOf}
-use Rattle.neighbors.specs.Neighbors.{siblingsWritten, neighborsWritten}
+use Rattle.neighbors.specs.Neighbors.{neighborsWritten}
+use Rattle.siblings.specs.Siblings.{siblingsWritten}
 use Rattle.plate_table.specs.Kept.{answers, both-accepted, none-accepted, v1-keeps-both, simplify-keeps-one, empty-settles}
 use Rattle.plate_table.specs.Rows.{Row, row, key, entriesOfKeys, accepted, refused, keeps, ranges}
 use Rattle.quadkey.specs.Key.{keyFrom, keyWritten, allDigits, keyRefusal, spelled}

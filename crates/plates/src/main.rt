@@ -44,7 +44,7 @@ fn ancestors() {
 fn beside() {
     let mut list = [0u64; 8];
     say(b"siblings of (3,5,3):");
-    let n = written(neighbors::siblings(3, 5, 3, &mut list));
+    let n = written(siblings::siblings(3, 5, 3, &mut list));
     say_entries(&list, n);
     say(b"\nneighbours of (3,0,2):");
     let m = written(neighbors::neighbors(3, 0, 2, &mut list));

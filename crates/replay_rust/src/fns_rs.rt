@@ -81,7 +81,7 @@ fn beside(name: &[u8], t: Tile, out: &mut [u64], want: &[u64]) -> bool {
         b"children1_zorder siblings neighbors neighbors_wrap_x",
     ) {
         0 => lists::same_list(children::children1_zorder(x, y, z, out), 0, out, want),
-        1 => lists::same_list(neighbors::siblings(x, y, z, out), 0, out, want),
+        1 => lists::same_list(siblings::siblings(x, y, z, out), 0, out, want),
         2 => lists::same_list(neighbors::neighbors(x, y, z, out), 0, out, want),
         3 => lists::same_list(neighbors::neighbors_wrap_x(x, y, z, out), 0, out, want),
         _ => false,

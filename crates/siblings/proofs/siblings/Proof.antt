@@ -1,4 +1,4 @@
--- `neighbors::siblings` meets its contract: the tile is checked, then its zoom, then the memory, and then three entries are written.
+-- `siblings::siblings` meets its contract: the tile is checked, then its zoom, then the memory, and then three entries are written.
 use mathlib.Core.Path.{_≡_, refl, sym, ap, ap₂, _∙_}
 use Prim.Native.Nat.{ℕ, _<_}
 use native.Mathlib.Omega.{arith}
@@ -12,10 +12,10 @@ use Rattle.errors.specs.Laws.{check-fine, check-refused, stands}
 use Rattle.errors.specs.Memory.{written-refused, written-short, written-done}
 use Rattle.tile.specs.OnMap.{OnMap, tileRefusal, accepted-on-map}
 use Rattle.errors.specs.declared.Refusal.the-variants.{NoRelative}
-use Rattle.neighbors.specs.Neighbors.{siblingsOf, other}
-use Rattle.neighbors.specs.Laws.{other-small, three-places}
-use Rattle.neighbors.proofs.siblings.Statement.{statement}
-use Rattle.neighbors.proofs.siblings.Tie as tie
+use Rattle.siblings.specs.Siblings.{siblingsOf, other}
+use Rattle.siblings.specs.Laws.{other-small, three-places}
+use Rattle.siblings.proofs.siblings.Statement.{statement}
+use Rattle.siblings.proofs.siblings.Tie as tie
 
 check-requires : tie.Need-check-requires
 check-requires c κs = search needs

@@ -1,0 +1,4 @@
+pub mod Laws
+pub mod Rust
+pub mod Siblings
+pub mod Theorems
