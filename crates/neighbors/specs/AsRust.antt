@@ -1,4 +1,4 @@
--- That the Rust's arms, and its steps by signed numbers, give the places of the square of nine, and that all of it fits the Rust's widths.
+-- That the Rust's arms, and its steps by signed numbers, give the squares of the block of nine, and that all of it fits the Rust's widths.
 use mathlib.Core.Path.{_≡_, refl, sym, ap}
 use mathlib.Core.Bool.{Bool, true, false, cond, _||_}
 use mathlib.Core.List.{List, [], _∷_, _++_, flatMap}
@@ -42,7 +42,7 @@ inside-is side n s a e = let h : 1 ≤ a + 1 = omega arith in rw (e, le-leb 1 (a
 last : (n : ℕ) → eqb n 0 ≡ false → rustAlong Back n ≡ returns (n - 1)
 last n e = minus-fits n 1 (omega (arith, eqb-false n 0 e))
 
--- a place of the square by the tile that stands there; left of column 0 and above row 0 there is none
+-- a square by the tile that stands there; left of column 0 and above row 0 there is none
 module _ (x y z : ℕ) where
   pub near-at : (s a b : ℕ) → x + s / 3 ≡ a + 1 → y + s % 3 ≡ b + 1 → near x y z s ≡ kept (tileAt a b z)
   near-at s a b e f =
@@ -56,12 +56,12 @@ module _ (x y z : ℕ) where
   no-row : (s : ℕ) → y + s % 3 < 1 → near x y z s ≡ []
   no-row s h = sym (near-off-row false x y z s (below-one (2 ^ z) y (s % 3) h))
 
-  -- the square in its order, by what stands at the five places that column 0 or row 0 may lack
-  square : {w n nw ne sw : List Tile} → near x y z 1 ≡ w → near x y z 3 ≡ n → near x y z 0 ≡ nw → near x y z 6 ≡ ne → near x y z 2 ≡ sw
+  -- the block in its order, by what stands at the five squares that column 0 or row 0 may lack
+  block : {w n nw ne sw : List Tile} → near x y z 1 ≡ w → near x y z 3 ≡ n → near x y z 0 ≡ nw → near x y z 6 ≡ ne → near x y z 2 ≡ sw
       → kept (tileAt (x + 1) y z) ++ (kept (tileAt x (y + 1) z) ++ (kept (tileAt (x + 1) (y + 1) z) ++ (w ++ (n ++ (nw ++ (ne ++ (sw ++ [])))))))
       ≡ gather (near x y z) around
   unfolding gather
-  square p q r s t =
+  block p q r s t =
       rw (
         near-at 7 (x + 1) y (omega arith) (omega arith),
         near-at 5 x (y + 1) (omega arith) (omega arith),
@@ -79,21 +79,21 @@ module _ (x y z : ℕ) where
   arm-struck true p true q =
       let e = eqb-true x 0 p in
       let f = eqb-true y 0 q in
-      square (no-column 1 (omega arith)) (no-row 3 (omega arith)) (no-column 0 (omega arith)) (no-row 6 (omega arith)) (no-column 2 (omega arith))
+      block (no-column 1 (omega arith)) (no-row 3 (omega arith)) (no-column 0 (omega arith)) (no-row 6 (omega arith)) (no-column 2 (omega arith))
   arm-struck true p false q =
       let e = eqb-true x 0 p in
       let f = eqb-false y 0 q in
-      square (no-column 1 (omega arith)) (near-at 3 x (y - 1) (omega arith) (omega arith)) (no-column 0 (omega arith))
+      block (no-column 1 (omega arith)) (near-at 3 x (y - 1) (omega arith) (omega arith)) (no-column 0 (omega arith))
       (near-at 6 (x + 1) (y - 1) (omega arith) (omega arith)) (no-column 2 (omega arith))
   arm-struck false p true q =
       let e = eqb-false x 0 p in
       let f = eqb-true y 0 q in
-      square (near-at 1 (x - 1) y (omega arith) (omega arith)) (no-row 3 (omega arith)) (no-row 0 (omega arith)) (no-row 6 (omega arith))
+      block (near-at 1 (x - 1) y (omega arith) (omega arith)) (no-row 3 (omega arith)) (no-row 0 (omega arith)) (no-row 6 (omega arith))
       (near-at 2 (x - 1) (y + 1) (omega arith) (omega arith))
   arm-struck false p false q =
       let e = eqb-false x 0 p in
       let f = eqb-false y 0 q in
-      square (near-at 1 (x - 1) y (omega arith) (omega arith)) (near-at 3 x (y - 1) (omega arith) (omega arith))
+      block (near-at 1 (x - 1) y (omega arith) (omega arith)) (near-at 3 x (y - 1) (omega arith) (omega arith))
       (near-at 0 (x - 1) (y - 1) (omega arith) (omega arith)) (near-at 6 (x + 1) (y - 1) (omega arith) (omega arith))
       (near-at 2 (x - 1) (y + 1) (omega arith) (omega arith))
 
@@ -192,9 +192,9 @@ module _ (x y z : ℕ) (on-map : To29 x y z) where
       rw (sum-fits p x (omega (arith, on-map .column)), sum-fits q y (omega (arith, on-map .row)), c, mod-eq-of-lt l)
       (ap returns (wrapped-row q y (2 ^ z) (λ r. tileAt ((x + s / 3 + 2 ^ z - 1) % 2 ^ z) r z) m))
 
-  pub wrapped-square : wrapTiles x y z ≡ returns (gather (nearWrapped x y z) aroundWrapped)
+  pub wrapped-block : wrapTiles x y z ≡ returns (gather (nearWrapped x y z) aroundWrapped)
   unfolding wrapSteps gather
-  wrapped-square =
+  wrapped-block =
       rw (
         one-shifted 32 z (omega (arith, on-map .zoom)),
         wrapped-step 0 back back,

@@ -28,13 +28,13 @@ pub eight : (wrap : Bool) → length (orderOf wrap) ≡ 8
 eight true = refl
 eight false = refl
 
--- a place that is gone through is one of the nine
+-- a square that is gone through is one of the nine
 pub one-of-nine : (wrap : Bool) (k : ℕ) → k < 8 → getD (orderOf wrap) k 0 < 9
 unfolding allOf
 one-of-nine true k h = ltb-true _ 9 (all-at (λ s. ltb s 9) (orderOf true) k refl h)
 one-of-nine false k h = ltb-true _ 9 (all-at (λ s. ltb s 9) (orderOf false) k refl h)
 
--- the tiles found among the first k places
+-- the tiles found among the first k squares
 abbrev pub found : Bool → ℕ → ℕ → ℕ → ℕ → List Tile
 found wrap x y z k = gather (nearOf wrap x y z) (take k (orderOf wrap))
 
@@ -51,7 +51,7 @@ found-more wrap x y z k h =
 pub found-all : (wrap : Bool) (x y z : ℕ) → found wrap x y z 8 ≡ gather (nearOf wrap x y z) (orderOf wrap)
 found-all wrap x y z = ap (λ (n : ℕ). found wrap x y z n) (sym (eight wrap)) ∙ ap (gather (nearOf wrap x y z)) (take-length (orderOf wrap))
 
--- no more are found among the first places than among all
+-- no more are found among the first squares than among all
 pub found-within : (wrap : Bool) (x y z k : ℕ) → length (found wrap x y z k) ≤ length (gather (nearOf wrap x y z) (orderOf wrap))
 found-within wrap x y z k =
     let f = nearOf wrap x y z in
@@ -64,7 +64,7 @@ pub count-more : (wrap : Bool) (x y z k n : ℕ) (spot : Spot) → k < 8 → n �
     → n + length (spotTiles z spot) ≡ length (found wrap x y z (k + 1))
 count-more wrap x y z k n spot h e f = rw (found-more wrap x y z k h, length-append, ← f, e)
 
--- what one place has is written
+-- what one square has is written
 pub fill-more : (wrap : Bool) (x y z k n : ℕ) (spot : Spot) (memory out : List ℕ) → k < 8 → n ≡ length (found wrap x y z k)
     → out ≡ entriesOf (found wrap x y z k) ++ drop n memory → spotTiles z spot ≡ nearOf wrap x y z (getD (orderOf wrap) k 0)
     → pasted n (entriesOf (spotTiles z spot)) out ≡ entriesOf (found wrap x y z (k + 1)) ++ drop (n + length (spotTiles z spot)) memory
@@ -96,7 +96,7 @@ kept-is : (b : Bool) (s t : Tile) → s ∷ [] ≡ cond b (t ∷ []) [] → (b �
 kept-is true s t e = (refl, cc)
 kept-is false s t e = let z : _≡_ {A = ℕ} 0 1 = cc in absurd (omega arith)
 
--- a place that is on the map is a tile of it
+-- a square that is on the map is a tile of it
 pub near-on-map : (wrap : Bool) (x y z s c r : ℕ) → OnMap x y z → spotTiles z (At c r) ≡ nearOf wrap x y z s → OnMap c r z
 near-on-map true x y z s c r m e =
     let k = kept-is (inside (2 ^ z) y (s % 3)) (tileAt c r z) (tileAt ((x + s / 3 + 2 ^ z - 1) % 2 ^ z) (y + s % 3 - 1) z) e in
@@ -120,7 +120,7 @@ paste-one n v memory h = rw (set-split memory n v h, add-one n)
 pub paste-none : (n : ℕ) (memory : List ℕ) → memory ≡ pasted n [] memory
 paste-none n memory = rw add-zero (sym (take-append-drop n memory))
 
--- the tests of a place, as the code makes them
+-- the tests of a square, as the code makes them
 pub near-off-row : (wrap : Bool) (x y z s : ℕ) → inside (2 ^ z) y (s % 3) ≡ false → [] ≡ nearOf wrap x y z s
 near-off-row true x y z s e = rw e
 near-off-row false x y z s e = rw e (pick (inside (2 ^ z) x (s / 3)))
@@ -142,7 +142,7 @@ past-side side n s h = rw (lt-leb (n + s) side h) (pick (leb 1 (n + s)))
 pub within-side : (side n s : ℕ) → 1 ≤ n + s → n + s ≤ side → inside side n s ≡ true
 within-side side n s h l = rw (le-leb _ _ h, le-leb _ _ l)
 
--- a place has one tile at most, so k places have k
+-- a square has one tile at most, so k squares have k
 near-most : (wrap : Bool) (x y z s : ℕ) → length (nearOf wrap x y z s) ≤ 1
 near-most true x y z s = pick (inside (2 ^ z) y (s % 3))
   where

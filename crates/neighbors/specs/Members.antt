@@ -32,7 +32,7 @@ holds-mem s (a ∷ l) e = pick (eqb s a) refl e (holds-mem s l)
     pick true p f below = List·Memᴰ·head (eqb-true s a p)
     pick false p f below = List·Memᴰ·tail (below f)
 
--- the places that are gone through are those of the nine that are not the tile's own
+-- the squares that are gone through are those of the nine that are not the tile's own
 abbrev notMiddle : ℕ → Bool
 notMiddle s = ltb s 9 && not (eqb s 4)
 
@@ -45,14 +45,14 @@ not-true : (b : Bool) → not b ≡ true → b ≡ false
 not-true true e = let z : _≡_ {A = ℕ} 0 1 = cc in absurd (omega arith)
 not-true false e = refl
 
-pub around-place : (wrap : Bool) {s : ℕ} → List·Memᴰ s (orderOf wrap) → (s < 9) × (s ≡ 4 → ⊥)
-around-place wrap {s} m =
+pub around-square : (wrap : Bool) {s : ℕ} → List·Memᴰ s (orderOf wrap) → (s < 9) × (s ≡ 4 → ⊥)
+around-square wrap {s} m =
     let p = and-parts (ltb s 9) (not (eqb s 4)) (all-in notMiddle (orderOf wrap) (never-middle wrap) m) in
     (ltb-true s 9 (p .0), eqb-false s 4 (not-true (eqb s 4) (p .1)))
 
-pub place-around : (s : ℕ) → s < 9 → (s ≡ 4 → ⊥) → List·Memᴰ s around
+pub square-around : (s : ℕ) → s < 9 → (s ≡ 4 → ⊥) → List·Memᴰ s around
 unfolding holds
-place-around s h k = holds-mem s around (found-at s h k)
+square-around s h k = holds-mem s around (found-at s h k)
   where
     found-at : (n : ℕ) → n < 9 → (n ≡ 4 → ⊥) → holds n around ≡ true
     found-at zero h k = refl
@@ -66,20 +66,20 @@ place-around s h k = holds-mem s around (found-at s h k)
     found-at (suc (suc (suc (suc (suc (suc (suc (suc zero)))))))) h k = refl
     found-at (suc (suc (suc (suc (suc (suc (suc (suc (suc n))))))))) h k = absurd (omega arith)
 
--- a tile at a place of the square has passed the tests of that place
+-- a tile at a square has passed the tests of that square
 mem-test : (b : Bool) {t u : Tile} → List·Memᴰ t (cond b (u ∷ []) []) → (b ≡ true) × (t ≡ u)
 mem-test true m = (refl, List·Memᴰ·eq-of-singleton m)
 mem-test false m = absurd (List·Memᴰ·not-nil m)
 
-pub record Placed (x y z s : ℕ) (t : Tile) : Type 0 where
+pub record OnSquare (x y z s : ℕ) (t : Tile) : Type 0 where
   pub column : t .x + 1 ≡ x + s / 3
   pub row : t .y + 1 ≡ y + s % 3
   pub zoom : t .z ≡ z
   pub column-small : t .x < 2 ^ z
   pub row-small : t .y < 2 ^ z
 
-pub near-placed : (x y z s : ℕ) (t : Tile) → List·Memᴰ t (near x y z s) → Placed x y z s t
-near-placed x y z s t m =
+pub near-on-square : (x y z s : ℕ) (t : Tile) → List·Memᴰ t (near x y z s) → OnSquare x y z s t
+near-on-square x y z s t m =
     let k = mem-test (inside (2 ^ z) x (s / 3) && inside (2 ^ z) y (s % 3)) m in
     let p = and-parts (inside (2 ^ z) x (s / 3)) (inside (2 ^ z) y (s % 3)) (k .0) in
     let c = and-parts (leb 1 (x + s / 3)) (leb (x + s / 3) (2 ^ z)) (p .0) in
@@ -92,12 +92,12 @@ near-placed x y z s t m =
     let b : t .y ≡ y + s % 3 - 1 = ap (λ (u : Tile). u .y) (k .1) in
     record { column = omega arith; row = omega arith; zoom = ap (λ (u : Tile). u .z) (k .1); column-small = omega arith; row-small = omega arith }
 
-pub placed-near : (x y z s : ℕ) (t : Tile) → Placed x y z s t → List·Memᴰ t (near x y z s)
-placed-near x y z s t p =
+pub on-square-near : (x y z s : ℕ) (t : Tile) → OnSquare x y z s t → List·Memᴰ t (near x y z s)
+on-square-near x y z s t p =
     let e : t ≡ tileAt (t .x) (t .y) z = tile-ext t (tileAt (t .x) (t .y) z) refl refl (p .zoom) in
     rw (near-at x y z s (t .x) (t .y) (sym (p .column)) (sym (p .row)), lt-ltb _ _ (p .column-small), lt-ltb _ _ (p .row-small)) (List·Memᴰ·head e)
 
--- a tile at a place of the square, on either kind of map, is the one tile of that place
+-- a tile at a square, on either kind of map, is the one tile of that square
 near-one : (wrap : Bool) (x y z s : ℕ) (t : Tile) → List·Memᴰ t (nearOf wrap x y z s) → (tileAt (t .x) (t .y) z ∷ [] ≡ nearOf wrap x y z s) × (t .z ≡ z)
 near-one true x y z s t m =
     let k = mem-test (inside (2 ^ z) y (s % 3)) m in
@@ -109,18 +109,18 @@ near-one false x y z s t m =
 pub mem-on-map : (wrap : Bool) (x y z s : ℕ) (t : Tile) → OnMap x y z → List·Memᴰ t (nearOf wrap x y z s) → OnMap (t .x) (t .y) (t .z)
 mem-on-map wrap x y z s t m k = let e = near-one wrap x y z s t k in rw (e .1) (near-on-map wrap x y z s (t .x) (t .y) m (e .0))
 
--- the place of a tile in the square
-abbrev placeOf : Bool → ℕ → ℕ → ℕ → Tile → ℕ
-placeOf true x y side t = 3 * ((t .x + (1 + (side - x))) % side) + (t .y + 1 - y)
-placeOf false x y side t = 3 * (t .x + 1 - x) + (t .y + 1 - y)
+-- the square of a tile
+abbrev squareOf : Bool → ℕ → ℕ → ℕ → Tile → ℕ
+squareOf true x y side t = 3 * ((t .x + (1 + (side - x))) % side) + (t .y + 1 - y)
+squareOf false x y side t = 3 * (t .x + 1 - x) + (t .y + 1 - y)
 
 wrapped-back : (x c side : ℕ) → x < side → c < side → ((x + c + side - 1) % side + (1 + (side - x))) % side ≡ c
 wrapped-back x c side h k =
     let e : x + c + side - 1 + (1 + (side - x)) ≡ c + side + side = omega arith in
     rw (mod-add-mod (x + c + side - 1) side (1 + (side - x)), e, add-mod-right (c + side) side, add-mod-right c side, mod-eq-of-lt k)
 
-pub place-back : (wrap : Bool) (x y z s : ℕ) (t : Tile) → x < 2 ^ z → 4 ≤ 2 ^ z → s < 9 → List·Memᴰ t (nearOf wrap x y z s) → placeOf wrap x y (2 ^ z) t ≡ s
-place-back true x y z s t h f n m =
+pub square-back : (wrap : Bool) (x y z s : ℕ) (t : Tile) → x < 2 ^ z → 4 ≤ 2 ^ z → s < 9 → List·Memᴰ t (nearOf wrap x y z s) → squareOf wrap x y (2 ^ z) t ≡ s
+square-back true x y z s t h f n m =
     let k = mem-test (inside (2 ^ z) y (s % 3)) m in
     let r = and-parts (leb 1 (y + s % 3)) (leb (y + s % 3) (2 ^ z)) (k .0) in
     let l = leb-true 1 (y + s % 3) (r .0) in
@@ -128,14 +128,14 @@ place-back true x y z s t h f n m =
     let b : t .y ≡ y + s % 3 - 1 = ap (λ (u : Tile). u .y) (k .1) in
     let c : s / 3 < 2 ^ z = omega arith in
     rw (a, wrapped-back x (s / 3) (2 ^ z) h c) (omega arith)
-place-back false x y z s t h f n m = let p = near-placed x y z s t m in omega (arith, p .column, p .row)
+square-back false x y z s t h f n m = let p = near-on-square x y z s t m in omega (arith, p .column, p .row)
 
-pub place-self : (wrap : Bool) (x y z : ℕ) → x < 2 ^ z → 4 ≤ 2 ^ z → placeOf wrap x y (2 ^ z) (tileAt x y z) ≡ 4
-place-self true x y z h f =
+pub square-self : (wrap : Bool) (x y z : ℕ) → x < 2 ^ z → 4 ≤ 2 ^ z → squareOf wrap x y (2 ^ z) (tileAt x y z) ≡ 4
+square-self true x y z h f =
     let e : x + (1 + (2 ^ z - x)) ≡ 1 + 2 ^ z = omega arith in
     let l : 1 < 2 ^ z = omega arith in
     rw (e, add-mod-right 1 (2 ^ z), mod-eq-of-lt l) (omega arith)
-place-self false x y z h f = omega arith
+square-self false x y z h f = omega arith
 
 mem-holds : {s : ℕ} (l : List ℕ) → List·Memᴰ s l → holds s l ≡ true
 unfolding holds
@@ -174,11 +174,11 @@ near-once : (wrap : Bool) (x y z s : ℕ) → List·Nodup (nearOf wrap x y z s)
 near-once true x y z s = one-at-most (inside (2 ^ z) y (s % 3)) (tileAt ((x + s / 3 + 2 ^ z - 1) % 2 ^ z) (y + s % 3 - 1) z)
 near-once false x y z s = one-at-most (inside (2 ^ z) x (s / 3) && inside (2 ^ z) y (s % 3)) (tileAt (x + s / 3 - 1) (y + s % 3 - 1) z)
 
--- a tile tells the place that it is from, so no two places have it
+-- a tile tells the square that it is from, so no two squares have it
 pub around-once : (wrap : Bool) (x y z : ℕ) → x < 2 ^ z → 4 ≤ 2 ^ z → List·Nodup (gather (nearOf wrap x y z) (orderOf wrap))
 around-once wrap x y z h f =
     once-gather (nearOf wrap x y z) (orderOf wrap) (order-once wrap) (near-once wrap x y z)
-    (λ t q r k m i j. sym (place t q k i) ∙ place t r m j)
+    (λ t q r k m i j. sym (square t q k i) ∙ square t r m j)
   where
-    place : (t : Tile) (s : ℕ) → List·Memᴰ s (orderOf wrap) → List·Memᴰ t (nearOf wrap x y z s) → placeOf wrap x y (2 ^ z) t ≡ s
-    place t s k m = place-back wrap x y z s t h f (around-place wrap k .0) m
+    square : (t : Tile) (s : ℕ) → List·Memᴰ s (orderOf wrap) → List·Memᴰ t (nearOf wrap x y z s) → squareOf wrap x y (2 ^ z) t ≡ s
+    square t s k m = square-back wrap x y z s t h f (around-square wrap k .0) m

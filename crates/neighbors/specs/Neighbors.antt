@@ -13,7 +13,7 @@ use Rattle.tile.specs.declared.Tile.{Tile}
 use Rattle.neighbors.specs.declared.Spot.{Spot}
 use Rattle.neighbors.specs.declared.Spot.the-variants.{At, Off}
 
--- the orders in which the square of nine around a tile is gone through. Its places are numbered column by column:
+-- the orders in which the block of nine squares around a tile is gone through. They are numbered column by column:
 --     0 3 6
 --     1 4 7
 --     2 5 8
@@ -23,11 +23,11 @@ around = 7 ∷ 5 ∷ 8 ∷ 1 ∷ 3 ∷ 0 ∷ 6 ∷ 2 ∷ []
 abbrev pub aroundWrapped : List ℕ
 aroundWrapped = 0 ∷ 1 ∷ 2 ∷ 3 ∷ 5 ∷ 6 ∷ 7 ∷ 8 ∷ []
 
--- place n + s − 1 of an axis of so many places, for a step s of 0, 1 or 2
+-- whether there is a column, or row, n + s − 1 of so many, for a step s of 0, 1 or 2
 abbrev pub inside : ℕ → ℕ → ℕ → Bool
 inside side n s = leb 1 (n + s) && leb (n + s) side
 
--- place s of the square, struck out where it is off the map
+-- the tile of square s, struck out where it is off the map
 abbrev pub near : ℕ → ℕ → ℕ → ℕ → List Tile
 near x y z s = cond (inside (2 ^ z) x (s / 3) && inside (2 ^ z) y (s % 3)) (tileAt (x + s / 3 - 1) (y + s % 3 - 1) z ∷ []) []
 
@@ -57,7 +57,7 @@ neighborsWritten wrap x y z memory = written (tileRefusal x y z) (entriesOf (nei
 abbrev pub aroundWritten : Bool → ℕ → ℕ → ℕ → List ℕ → Lent ℕ
 aroundWritten wrap x y z memory = written (tileRefusal x y z) (entriesOf (gather (nearOf wrap x y z) (orderOf wrap))) memory
 
--- how the code holds a place of the square
+-- how the code holds the tile of a square
 abbrev pub spotTiles : ℕ → Spot → List Tile
 spotTiles z (At x y) = tileAt x y z ∷ []
 spotTiles z Off = []

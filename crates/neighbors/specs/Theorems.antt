@@ -21,8 +21,8 @@ use Rattle.tile.specs.Theorems.{power-fits}
 use Rattle.tile.specs.declared.Tile.{Tile}
 use Rattle.neighbors.specs.Neighbors.{around, near, nearOf, orderOf, neighborsOf}
 use Rattle.neighbors.specs.Laws.{neighbors-deep}
-use Rattle.neighbors.specs.AsRust.{none-struck, arm-struck, arm-within, arm-fits, wrapped-square}
-use Rattle.neighbors.specs.Members.{around-place, place-around, Placed, near-placed, placed-near, mem-on-map, place-back, place-self, around-once}
+use Rattle.neighbors.specs.AsRust.{none-struck, arm-struck, arm-within, arm-fits, wrapped-block}
+use Rattle.neighbors.specs.Members.{around-square, square-around, OnSquare, near-on-square, on-square-near, mem-on-map, square-back, square-self, around-once}
 use Rattle.neighbors.specs.Rust.{TopLeft, edgeBy, rustEdge, neighborsArm, rustNeighbors, rustNeighborsWrapX, armBy, armOf, tilesAt, struck}
 
 -- The Rust is held to tiles of zoom 0 to 29. On them no check fails.
@@ -75,7 +75,7 @@ rust-neighbors x y z d e h k =
 pub rust-neighbors-wrap-x : (x y z : ℕ) → To29 x y z → rustNeighborsWrapX x y z ≡ returns (neighborsOf true x y z)
 rust-neighbors-wrap-x x y zero m = refl
 rust-neighbors-wrap-x x y (suc zero) m = rust-siblings x y 1 m
-rust-neighbors-wrap-x x y (suc (suc z)) m = wrapped-square x y (suc (suc z)) m
+rust-neighbors-wrap-x x y (suc (suc z)) m = wrapped-block x y (suc (suc z)) m
 
 -- a tile of the map beside (x, y, z): of its zoom, at most one column and one row away, and not that tile
 pub record Beside (x y z : ℕ) (t : Tile) : Type 0 where
@@ -91,8 +91,8 @@ beside-around x y z t = (there, back)
     there : List·Memᴰ t (gather (near x y z) around) → Beside x y z t
     there m =
         let r = in-gather (near x y z) around m in
-        let n = around-place false (r .1) in
-        let p = near-placed x y z (r .0) t (r .2) in
+        let n = around-square false (r .1) in
+        let p = near-on-square x y z (r .0) t (r .2) in
         record { zoom = p .zoom; on-map = omega arith; columns = omega arith; rows = omega arith; another = λ e f. n .1 (omega arith) }
 
     back : Beside x y z t → List·Memᴰ t (gather (near x y z) around)
@@ -100,9 +100,9 @@ beside-around x y z t = (there, back)
         let s = 3 * (t .x + 1 - x) + (t .y + 1 - y) in
         let c : s / 3 ≡ t .x + 1 - x = omega (arith, b .rows) in
         let r : s % 3 ≡ t .y + 1 - y = omega (arith, b .rows) in
-        let p : Placed x y z s t = record { column = omega arith; row = omega arith; zoom = b .zoom; column-small = b .on-map .0; row-small = b .on-map .1 } in
+        let p : OnSquare x y z s t = record { column = omega arith; row = omega arith; zoom = b .zoom; column-small = b .on-map .0; row-small = b .on-map .1 } in
         into-gather (near x y z) s around
-        (place-around s (omega (arith, b .columns, b .rows)) (λ e. b .another (omega arith) (omega arith))) (placed-near x y z s t p)
+        (square-around s (omega (arith, b .columns, b .rows)) (λ e. b .another (omega arith) (omega arith))) (on-square-near x y z s t p)
 
 -- the neighbours of a tile are just the tiles of the map beside it, at every zoom
 pub exactly-the-tiles-beside-it : (x y z : ℕ) (t : Tile) → OnMap x y z → List·Memᴰ t (neighborsOf false x y z) ↔ Beside x y z t
@@ -145,9 +145,9 @@ never-the-tile-itself wrap x y zero m k = List·Memᴰ·not-nil k
 never-the-tile-itself wrap x y (suc zero) m k = exactly-the-others-of-the-family x y 1 (tileAt x y 1) .0 k .another refl refl
 never-the-tile-itself wrap x y (suc (suc z)) m k =
     let r = in-gather (nearOf wrap x y (suc (suc z))) (orderOf wrap) k in
-    let n = around-place wrap (r .1) in
-    let e = place-back wrap x y (suc (suc z)) (r .0) (tileAt x y (suc (suc z))) (m .column) (wide z) (n .0) (r .2) in
-    n .1 (sym e ∙ place-self wrap x y (suc (suc z)) (m .column) (wide z))
+    let n = around-square wrap (r .1) in
+    let e = square-back wrap x y (suc (suc z)) (r .0) (tileAt x y (suc (suc z))) (m .column) (wide z) (n .0) (r .2) in
+    n .1 (sym e ∙ square-self wrap x y (suc (suc z)) (m .column) (wide z))
 
 -- .. and each is there once
 pub each-neighbour-once : (wrap : Bool) (x y z : ℕ) → OnMap x y z → List·Nodup (neighborsOf wrap x y z)

@@ -15,12 +15,12 @@ ghost use Rattle.children.specs.Children.{gather};
 ghost use Rattle.ids.specs.Entry.{entriesOf};
 ghost use Rattle.neighbors.specs.Neighbors.{orderOf, nearOf, spotTiles, neighborsWritten, aroundWritten, SpotOnMap, pasted};
 
-// The places of the square of nine around a tile, numbered column by column from 0; the tile itself is place 4.
+// The squares of the block of nine around a tile, numbered column by column from 0; the tile itself is square 4.
 const AROUND: [u8; 8] = [7, 5, 8, 1, 3, 0, 6, 2];
 
 const AROUND_WRAPPED: [u8; 8] = [0, 1, 2, 3, 5, 6, 7, 8];
 
-// A place of that square, where it is on the map.
+// What stands at such a square: a tile of the map, or none.
 pub enum Spot {
     At { x: u32, y: u32 },
     Off,
@@ -59,7 +59,7 @@ fn none(x: u32, y: u32, z: u8) -> Count
     }
 }
 
-// The tiles of the square of nine that are on the map, on one that wraps in x or not.
+// The tiles of the block of nine that are on the map, on one that wraps in x or not.
 fn around(wrap: bool, x: u32, y: u32, z: u8, out: &mut [u64]) -> Count
     ensures { λ r. ⌜ left r (now (out .exit)) ≡ aroundWritten wrap x y z (now (out .entry)) ⌝ }
 {
@@ -90,7 +90,7 @@ fn count(wrap: bool, x: u32, y: u32, z: u8, end: u32) -> usize
     n
 }
 
-// How many tiles a place has: one, or none where it is off the map.
+// How many tiles a square has: one, or none where it is off the map.
 fn tiles(z: u8, spot: Spot) -> usize
     ensures { λ r. ⌜ r ≡ length (spotTiles z spot) ⌝ }
 {
@@ -115,7 +115,7 @@ fn fill(wrap: bool, x: u32, y: u32, z: u8, end: u32, out: &mut [u64])
     }
 }
 
-// The entry of a place's tile goes to place n of the list, and n to the next; nothing changes where the place is off the map.
+// The entry of a square's tile goes to place n of the list, and n to the next; nothing changes where the square is off the map.
 fn put(out: &mut [u64], n: usize, z: u8, spot: Spot) -> usize
     requires { ⌜ SpotOnMap z spot ⌝ }
     requires { ⌜ n + length (spotTiles z spot) ≤ length (now out) ⌝ }
@@ -131,14 +131,14 @@ fn put(out: &mut [u64], n: usize, z: u8, spot: Spot) -> usize
     }
 }
 
-// What stands at the k-th place that is gone through.
+// What stands at the k-th square that is gone through.
 fn spot_at(wrap: bool, x: u32, y: u32, z: u8, end: u32, k: usize) -> Spot
     requires { ⌜ OnMap x y z ⌝ }
     requires { ⌜ end ≡ 2 ^ z ⌝ }
     requires { ⌜ k < 8 ⌝ }
     ensures { λ r. ⌜ spotTiles z r ≡ nearOf wrap x y z (getD (orderOf wrap) k 0) ⌝ }
 {
-    let s = place(wrap, k);
+    let s = square(wrap, k);
     let across = x + s / 3;
     let along = y + s % 3;
     if along < 1 {
@@ -165,7 +165,7 @@ fn spot_at(wrap: bool, x: u32, y: u32, z: u8, end: u32, k: usize) -> Spot
     }
 }
 
-fn place(wrap: bool, k: usize) -> u32
+fn square(wrap: bool, k: usize) -> u32
     requires { ⌜ k < 8 ⌝ }
     ensures { λ r. ⌜ r ≡ getD (orderOf wrap) k 0 ⌝ }
 {

@@ -1,4 +1,4 @@
--- `neighbors::count` meets its contract: after k turns n is how many tiles the first k places have.
+-- `neighbors::count` meets its contract: after k turns n is how many tiles the first k squares have.
 use mathlib.Core.Path.{_≡_, refl, ap, _∙_}
 use mathlib.Core.List.{List}
 use Prim.Native.Nat.{ℕ, _+_, _-_, _≤_}

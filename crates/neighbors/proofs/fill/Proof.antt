@@ -1,4 +1,4 @@
--- `neighbors::fill` meets its contract: after k turns the tiles of the first k places stand at the front of the memory.
+-- `neighbors::fill` meets its contract: after k turns the tiles of the first k squares stand at the front of the memory.
 use mathlib.Core.Path.{_≡_, refl, sym, ap, _∙_}
 use mathlib.Core.List.{_++_}
 use Prim.Native.Nat.{ℕ, _+_, _-_, _≤_}

@@ -1,4 +1,4 @@
--- `neighbors::near` meets its contract: zoom 0 has none, zoom 1 the siblings, and every other zoom those of the square of nine.
+-- `neighbors::near` meets its contract: zoom 0 has none, zoom 1 the siblings, and every other zoom those of the block of nine.
 use borrow.Author.Needs.{needs}
 use Rattle.errors.specs.Laws.{else-none}
 use Rattle.tile.specs.OnMap.{tileRefusal}

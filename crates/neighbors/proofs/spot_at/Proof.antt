@@ -10,11 +10,11 @@ use Rattle.neighbors.specs.Laws.{one-of-nine, near-off-row, below-one, p
 use Rattle.neighbors.proofs.spot_at.Statement.{statement}
 use Rattle.neighbors.proofs.spot_at.Tie as tie
 
-place-requires : tie.Need-place-requires
-place-requires c κs = search needs
+square-requires : tie.Need-square-requires
+square-requires c κs = search needs
 
-nine : (c : tie.After-place) → c .place .result < 9
-nine c = rw (c .place .ensures) (one-of-nine (c .before .args .wrap) (c .before .args .k) (c .before .pre .1 .1))
+nine : (c : tie.After-square) → c .square .result < 9
+nine c = rw (c .square .ensures) (one-of-nine (c .before .args .wrap) (c .before .args .k) (c .before .pre .1 .1))
 
 add-across : tie.Need-add-across
 add-across c = omega (arith, nine c, on-map-small (c .before .pre .0) .0)
@@ -25,14 +25,14 @@ add-along c = omega (arith, nine c, on-map-small (c .before .pre .0) .1)
 returns : tie.Need-returns
 returns c =
     let a = c .before .before .args in
-    let p = c .before .place in
+    let p = c .before .square in
     rw (← p .ensures) (near-off-row (a .wrap) (a .x) (a .y) (a .z) (p .result) (below-one (2 ^ a .z) (a .y) _ (c .if1 .taken)))
 
 returns-2 : tie.Need-returns-2
 returns-2 c =
     let s = c .before .before .before in
     let a = s .args in
-    let p = c .before .before .place in
+    let p = c .before .before .square in
     let o = past-side (2 ^ a .z) (a .y) (p .result % 3) (rw (s .pre .1 .0) at (c .if2 .taken)) in
     rw (← p .ensures) (near-off-row (a .wrap) (a .x) (a .y) (a .z) (p .result) o)
 
@@ -48,39 +48,39 @@ rem-t14 : tie.Need-rem-t14
 rem-t14 c = search needs
 
 -- past the tests of the row, it is inside
-row-inside : (c : tie.After-place) → let a = c .before .args in let s = c .place .result % 3 in 1 ≤ a .y + s → a .y + s ≤ a .end → inside (2 ^ a .z) (a .y) s ≡ true
-row-inside c h l = let a = c .before .args in within-side (2 ^ a .z) (a .y) (c .place .result % 3) h (rw (c .before .pre .1 .0) at l)
+row-inside : (c : tie.After-square) → let a = c .before .args in let s = c .square .result % 3 in 1 ≤ a .y + s → a .y + s ≤ a .end → inside (2 ^ a .z) (a .y) s ≡ true
+row-inside c h l = let a = c .before .args in within-side (2 ^ a .z) (a .y) (c .square .result % 3) h (rw (c .before .pre .1 .0) at l)
 
 returns-3 : tie.Need-returns-3
 returns-3 c =
     let p = c .before .before .before in
-    rw (← p .place .ensures, c .if3 .taken, row-inside p (c .before .before .if1 .left) (c .before .if2 .left), p .before .pre .1 .0)
+    rw (← p .square .ensures, c .if3 .taken, row-inside p (c .before .before .if1 .left) (c .before .if2 .left), p .before .pre .1 .0)
 
 returns-4 : tie.Need-returns-4
 returns-4 c =
     let p = c .before .before .before .before in
     let a = p .before .args in
-    rw (← p .place .ensures, c .before .if3 .left, below-one (2 ^ a .z) (a .x) (p .place .result / 3) (c .if4 .taken))
+    rw (← p .square .ensures, c .before .if3 .left, below-one (2 ^ a .z) (a .x) (p .square .result / 3) (c .if4 .taken))
 
 returns-5 : tie.Need-returns-5
 returns-5 c =
     let p = c .before .before .before .before .before in
     let a = p .before .args in
-    let o = past-side (2 ^ a .z) (a .x) (p .place .result / 3) (rw (p .before .pre .1 .0) at (c .if5 .taken)) in
-    rw (← p .place .ensures, c .before .before .if3 .left, o)
+    let o = past-side (2 ^ a .z) (a .x) (p .square .result / 3) (rw (p .before .pre .1 .0) at (c .if5 .taken)) in
+    rw (← p .square .ensures, c .before .before .if3 .left, o)
 
 returns-6 : tie.Need-returns-6
 returns-6 c =
     let p = c .before .before .before .before .before in
     let a = p .before .args in
-    let i = within-side (2 ^ a .z) (a .x) (p .place .result / 3) (c .before .if4 .left) (rw (p .before .pre .1 .0) at (c .if5 .left)) in
-    rw (← p .place .ensures, c .before .before .if3 .left, i, row-inside p (c .before .before .before .before .if1 .left) (c .before .before .before .if2 .left))
+    let i = within-side (2 ^ a .z) (a .x) (p .square .result / 3) (c .before .if4 .left) (rw (p .before .pre .1 .0) at (c .if5 .left)) in
+    rw (← p .square .ensures, c .before .before .if3 .left, i, row-inside p (c .before .before .before .before .if1 .left) (c .before .before .before .if2 .left))
 
 pub spot-at-spec : {M : Type 1} → statement M
 spot-at-spec =
     tie.close
     (tie.spec
-    place-requires
+    square-requires
     add-across
     add-along
     returns
