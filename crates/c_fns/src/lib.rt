@@ -4,7 +4,7 @@ use tile::OptionU8;
 ghost use mathlib.Core.Path.{_≡_};
 ghost use Prim.Native.Nat.{_+_};
 ghost use mathlib.Core.Bool.{true, false};
-ghost use Rattle.c_give.specs.Exported.{answered, asByte, given, never};
+ghost use Rattle.c_give.specs.Exported.{answered, asByte, answeredIn, never};
 ghost use Rattle.c_fns.specs.Limits.{limitsAt};
 ghost use Rattle.children.specs.Children.{childrenOf, clockwise, zOrder};
 ghost use Rattle.fns.specs.Fns.{bbox2zoomOf, flipyOf, isTile, minMaxCase, minMaxOf, parentOf};
@@ -54,42 +54,42 @@ pub fn parent(x: u32, y: u32, z: u8, n: u8, tx: &mut u32, ty: &mut u32, tz: &mut
 }
 
 pub fn children(x: u32, y: u32, z: u8, zoom: u8, out: &mut [u64], count: &mut u64) -> u8
-    ensures { λ r. ⌜ given r (now (count .exit)) (now (out .exit)) ≡ childrenOf clockwise x y z zoom (now (out .entry)) ⌝ }
+    ensures { λ r. ⌜ answeredIn r (now (count .exit)) (now (out .exit)) ≡ childrenOf clockwise x y z zoom (now (out .entry)) ⌝ }
 {
     let answer = children::children(x, y, z, OptionU8::Some(zoom), out);
     c_give::count(answer, count)
 }
 
 pub fn children_zorder(x: u32, y: u32, z: u8, zoom: u8, out: &mut [u64], count: &mut u64) -> u8
-    ensures { λ r. ⌜ given r (now (count .exit)) (now (out .exit)) ≡ childrenOf zOrder x y z zoom (now (out .entry)) ⌝ }
+    ensures { λ r. ⌜ answeredIn r (now (count .exit)) (now (out .exit)) ≡ childrenOf zOrder x y z zoom (now (out .entry)) ⌝ }
 {
     let answer = children::children_zorder(x, y, z, OptionU8::Some(zoom), out);
     c_give::count(answer, count)
 }
 
 pub fn children1_zorder(x: u32, y: u32, z: u8, out: &mut [u64], count: &mut u64) -> u8
-    ensures { λ r. ⌜ given r (now (count .exit)) (now (out .exit)) ≡ childrenOf zOrder x y z (z + 1) (now (out .entry)) ⌝ }
+    ensures { λ r. ⌜ answeredIn r (now (count .exit)) (now (out .exit)) ≡ childrenOf zOrder x y z (z + 1) (now (out .entry)) ⌝ }
 {
     let answer = children::children1_zorder(x, y, z, out);
     c_give::count(answer, count)
 }
 
 pub fn siblings(x: u32, y: u32, z: u8, out: &mut [u64], count: &mut u64) -> u8
-    ensures { λ r. ⌜ given r (now (count .exit)) (now (out .exit)) ≡ siblingsWritten x y z (now (out .entry)) ⌝ }
+    ensures { λ r. ⌜ answeredIn r (now (count .exit)) (now (out .exit)) ≡ siblingsWritten x y z (now (out .entry)) ⌝ }
 {
     let answer = siblings::siblings(x, y, z, out);
     c_give::count(answer, count)
 }
 
 pub fn neighbors(x: u32, y: u32, z: u8, out: &mut [u64], count: &mut u64) -> u8
-    ensures { λ r. ⌜ given r (now (count .exit)) (now (out .exit)) ≡ neighborsWritten false x y z (now (out .entry)) ⌝ }
+    ensures { λ r. ⌜ answeredIn r (now (count .exit)) (now (out .exit)) ≡ neighborsWritten false x y z (now (out .entry)) ⌝ }
 {
     let answer = neighbors::neighbors(x, y, z, out);
     c_give::count(answer, count)
 }
 
 pub fn neighbors_wrap_x(x: u32, y: u32, z: u8, out: &mut [u64], count: &mut u64) -> u8
-    ensures { λ r. ⌜ given r (now (count .exit)) (now (out .exit)) ≡ neighborsWritten true x y z (now (out .entry)) ⌝ }
+    ensures { λ r. ⌜ answeredIn r (now (count .exit)) (now (out .exit)) ≡ neighborsWritten true x y z (now (out .entry)) ⌝ }
 {
     let answer = neighbors::neighbors_wrap_x(x, y, z, out);
     c_give::count(answer, count)

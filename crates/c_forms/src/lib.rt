@@ -4,7 +4,7 @@ use form_stream::KEPT;
 ghost use mathlib.Core.Path.{_≡_};
 ghost use mathlib.Core.List.{[]};
 ghost use lib.ListN.{take};
-ghost use Rattle.c_give.specs.Exported.{given};
+ghost use Rattle.c_give.specs.Exported.{answeredIn};
 ghost use Rattle.errors.specs.Answer.{written};
 ghost use Rattle.form.specs.Reading.{lineRefusal};
 ghost use Rattle.form_area.specs.Area.{areaWritten};
@@ -19,14 +19,14 @@ pub fn check(line: &[u8]) -> u8
 }
 
 pub fn area(line: &[u8], out: &mut [u64], count: &mut u64) -> u8
-    ensures { λ r. ⌜ given r (now (count .exit)) (now (out .exit)) ≡ areaWritten (now (line .entry)) (now (out .entry)) ⌝ }
+    ensures { λ r. ⌜ answeredIn r (now (count .exit)) (now (out .exit)) ≡ areaWritten (now (line .entry)) (now (out .entry)) ⌝ }
 {
     let answer = form_area::area(line, out);
     c_give::count(answer, count)
 }
 
 pub fn answer(line: &[u8], out: &mut [u8], count: &mut u64) -> u8
-    ensures { λ r. ⌜ given r (now (count .exit)) (now (out .exit)) ≡ lineWritten (now (line .entry)) (now (out .entry)) ⌝ }
+    ensures { λ r. ⌜ answeredIn r (now (count .exit)) (now (out .exit)) ≡ lineWritten (now (line .entry)) (now (out .entry)) ⌝ }
 {
     let answer = form_line::answer(line, out);
     c_give::count(answer, count)
@@ -53,7 +53,7 @@ pub fn feed(
 }
 
 pub fn finish(line: &[u8; KEPT], len: usize, out: &mut [u8], count: &mut u64) -> u8
-    ensures { λ r. ⌜ given r (now (count .exit)) (now (out .exit)) ≡ written 0 (said (take len (now (line .entry))) []) (now (out .entry)) ⌝ }
+    ensures { λ r. ⌜ answeredIn r (now (count .exit)) (now (out .exit)) ≡ written 0 (said (take len (now (line .entry))) []) (now (out .entry)) ⌝ }
 {
     let answer = form_stream::finish(line, len, out);
     c_give::count(answer, count)

@@ -13,8 +13,8 @@ answered number value = record { number = number; value = value }
 abbrev pub never : {A : Type 0} → A → Answer A
 never value = answered 0 value
 
-abbrev pub given : ℕ → ℕ → List ℕ → Lent ℕ
-given number count memory = record { number = number; value = count; memory = memory }
+abbrev pub answeredIn : ℕ → ℕ → List ℕ → Lent ℕ
+answeredIn number count memory = record { number = number; value = count; memory = memory }
 
 -- a yes or no is 1 or 0
 abbrev pub asByte : Answer Bool → Answer ℕ
@@ -26,5 +26,5 @@ bool-goes-out-as-1-or-0 false = refl
 
 -- a count that is handed on is the answer's, beside the memory that the call left
 pub handed-on : {r n : ℕ} {memory : List ℕ} {a : Answer ℕ} {L : Lent ℕ} → answered r n ≡ a
-    → given (a .number) (a .value) memory ≡ L → given r n memory ≡ L
-handed-on {memory = memory} e f = ap (λ (a : Answer ℕ). given (a .number) (a .value) memory) e ∙ f
+    → answeredIn (a .number) (a .value) memory ≡ L → answeredIn r n memory ≡ L
+handed-on {memory = memory} e f = ap (λ (a : Answer ℕ). answeredIn (a .number) (a .value) memory) e ∙ f

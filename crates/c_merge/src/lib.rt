@@ -3,7 +3,7 @@ use merge::MergeAnswer;
 use tile::OptionU8;
 ghost use mathlib.Core.Path.{_≡_};
 ghost use Rattle.area.specs.Area.{commonOf, differenceOf, unionOf};
-ghost use Rattle.c_give.specs.Exported.{answered, asByte, given};
+ghost use Rattle.c_give.specs.Exported.{answered, asByte, answeredIn};
 ghost use Rattle.c_merge.specs.Merged.{givenMerge, inNumbers};
 ghost use Rattle.merge.specs.Merge.{mergeOf, simplifyOf, simplifyV1Of};
 ghost use Rattle.settled.specs.Answers.{isSettledOf};
@@ -27,35 +27,35 @@ pub fn merge(list: &[u64], minzoom: u8, out: &mut [u64], count: &mut u64, change
 }
 
 pub fn simplify_v1(list: &[u64], minzoom: u8, out: &mut [u64], count: &mut u64) -> u8
-    ensures { λ r. ⌜ given r (now (count .exit)) (now (out .exit)) ≡ simplifyV1Of (now (list .entry)) minzoom (now (out .entry)) ⌝ }
+    ensures { λ r. ⌜ answeredIn r (now (count .exit)) (now (out .exit)) ≡ simplifyV1Of (now (list .entry)) minzoom (now (out .entry)) ⌝ }
 {
     let answer = merge::simplify_v1(list, OptionU8::Some(minzoom), out);
     c_give::count(answer, count)
 }
 
 pub fn simplify(list: &[u64], minzoom: u8, out: &mut [u64], count: &mut u64) -> u8
-    ensures { λ r. ⌜ given r (now (count .exit)) (now (out .exit)) ≡ simplifyOf (now (list .entry)) minzoom (now (out .entry)) ⌝ }
+    ensures { λ r. ⌜ answeredIn r (now (count .exit)) (now (out .exit)) ≡ simplifyOf (now (list .entry)) minzoom (now (out .entry)) ⌝ }
 {
     let answer = merge::simplify(list, OptionU8::Some(minzoom), out);
     c_give::count(answer, count)
 }
 
 pub fn union(a: &[u64], b: &[u64], out: &mut [u64], count: &mut u64) -> u8
-    ensures { λ r. ⌜ given r (now (count .exit)) (now (out .exit)) ≡ unionOf (now (a .entry)) (now (b .entry)) (now (out .entry)) ⌝ }
+    ensures { λ r. ⌜ answeredIn r (now (count .exit)) (now (out .exit)) ≡ unionOf (now (a .entry)) (now (b .entry)) (now (out .entry)) ⌝ }
 {
     let answer = area::union(a, b, out);
     c_give::count(answer, count)
 }
 
 pub fn common_part(a: &[u64], b: &[u64], out: &mut [u64], count: &mut u64) -> u8
-    ensures { λ r. ⌜ given r (now (count .exit)) (now (out .exit)) ≡ commonOf (now (a .entry)) (now (b .entry)) (now (out .entry)) ⌝ }
+    ensures { λ r. ⌜ answeredIn r (now (count .exit)) (now (out .exit)) ≡ commonOf (now (a .entry)) (now (b .entry)) (now (out .entry)) ⌝ }
 {
     let answer = area::common_part(a, b, out);
     c_give::count(answer, count)
 }
 
 pub fn difference(a: &[u64], b: &[u64], out: &mut [u64], count: &mut u64) -> u8
-    ensures { λ r. ⌜ given r (now (count .exit)) (now (out .exit)) ≡ differenceOf (now (a .entry)) (now (b .entry)) (now (out .entry)) ⌝ }
+    ensures { λ r. ⌜ answeredIn r (now (count .exit)) (now (out .exit)) ≡ differenceOf (now (a .entry)) (now (b .entry)) (now (out .entry)) ⌝ }
 {
     let answer = area::difference(a, b, out);
     c_give::count(answer, count)

@@ -1,20 +1,20 @@
 // What the exported calls of quadkey.rs do: each asks the crates `quadkey` and `key_parts`, and hands the answer on in numbers.
 ghost use mathlib.Core.Path.{_≡_};
-ghost use Rattle.c_give.specs.Exported.{answered, asByte, given, never};
+ghost use Rattle.c_give.specs.Exported.{answered, asByte, answeredIn, never};
 ghost use Rattle.c_quadkey.specs.Part.{partLength};
 ghost use Rattle.key_parts.specs.Parts.{ancestorRefusal, leadingPart, sharedLength, sharedRefusal};
 ghost use Rattle.quadkey.specs.Key.{flipWritten, isDigit, isKey, keyRefusal, keyTile, keyWritten};
 ghost use Rattle.tile.specs.OnMap.{tileAt};
 
 pub fn xyz2quadkey(x: u32, y: u32, z: u8, out: &mut [u8], count: &mut u64) -> u8
-    ensures { λ r. ⌜ given r (now (count .exit)) (now (out .exit)) ≡ keyWritten 48 x y z (now (out .entry)) ⌝ }
+    ensures { λ r. ⌜ answeredIn r (now (count .exit)) (now (out .exit)) ≡ keyWritten 48 x y z (now (out .entry)) ⌝ }
 {
     let answer = quadkey::xyz2quadkey(x, y, z, out);
     c_give::count(answer, count)
 }
 
 pub fn xyz2quadkey_vec(x: u32, y: u32, z: u8, out: &mut [u8], count: &mut u64) -> u8
-    ensures { λ r. ⌜ given r (now (count .exit)) (now (out .exit)) ≡ keyWritten 0 x y z (now (out .entry)) ⌝ }
+    ensures { λ r. ⌜ answeredIn r (now (count .exit)) (now (out .exit)) ≡ keyWritten 0 x y z (now (out .entry)) ⌝ }
 {
     let answer = quadkey::xyz2quadkey_vec(x, y, z, out);
     c_give::count(answer, count)
@@ -45,7 +45,7 @@ pub fn is_quadkey_byte(b: u8, told: &mut u8) -> u8
 }
 
 pub fn flipy(key: &[u8], out: &mut [u8], count: &mut u64) -> u8
-    ensures { λ r. ⌜ given r (now (count .exit)) (now (out .exit)) ≡ flipWritten (now (key .entry)) (now (out .entry)) ⌝ }
+    ensures { λ r. ⌜ answeredIn r (now (count .exit)) (now (out .exit)) ≡ flipWritten (now (key .entry)) (now (out .entry)) ⌝ }
 {
     let answer = quadkey::quadkey_flipy(key, out);
     c_give::count(answer, count)

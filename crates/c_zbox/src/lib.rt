@@ -3,7 +3,7 @@ use tile_zbox::BoxAnswer;
 use tile_zbox::ExtentAnswer;
 use tile_zbox::TileZBox;
 ghost use mathlib.Core.Path.{_≡_};
-ghost use Rattle.c_give.specs.Exported.{answered, asByte, given};
+ghost use Rattle.c_give.specs.Exported.{answered, asByte, answeredIn};
 ghost use Rattle.tile_zbox_around.specs.Around.{fromTilesOf};
 ghost use Rattle.tile_zbox.specs.Box.{boxAt, boxCase, boxRefusal, containsOf, dimensionsOf, dxOf, dxdyOf, dyOf, extentAt, extentCase};
 ghost use Rattle.tile_zbox.specs.Box.{boxFlipOf, fromTileOf, lengthOf, newOf, zoomDepthOf, zoomInOf};
@@ -228,7 +228,7 @@ pub fn boxes_length(boxes: &[u32], length: &mut u64) -> u8
 }
 
 pub fn boxes_flipy(boxes: &[u32], out: &mut [u32], count: &mut u64) -> u8
-    ensures { λ r. ⌜ given r (now (count .exit)) (now (out .exit)) ≡ boxesFlipOf (now (boxes .entry)) (now (out .entry)) ⌝ }
+    ensures { λ r. ⌜ answeredIn r (now (count .exit)) (now (out .exit)) ≡ boxesFlipOf (now (boxes .entry)) (now (out .entry)) ⌝ }
 {
     let answer = tile_zbox_numbers::boxes_flipy(boxes, out);
     c_give::count(answer, count)

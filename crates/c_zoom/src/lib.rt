@@ -5,7 +5,7 @@ use zoom::ZoomSetAnswer;
 ghost use mathlib.Core.Path.{_≡_};
 ghost use Prim.Native.Nat.{suc, _-_, _^_};
 ghost use lib.Bits.{bitAnd};
-ghost use Rattle.c_give.specs.Exported.{answered, given, never};
+ghost use Rattle.c_give.specs.Exported.{answered, answeredIn, never};
 ghost use Rattle.c_zoom.specs.Ranges.{givenTwo};
 ghost use Rattle.errors.specs.Answer.{written};
 ghost use Rattle.zoom.specs.Zooms.{andZoom, lastZoom, maxXY, rangeOf, rangeSet, rangesOf, zoomBit, zoomBitRev, zoomSetCase, zoomsOf};
@@ -18,14 +18,14 @@ pub fn zoom_max_xy(zoom: u8, max: &mut u32) -> u8
 }
 
 pub fn zset2zvec(zset: u32, out: &mut [u8], count: &mut u64) -> u8
-    ensures { λ r. ⌜ given r (now (count .exit)) (now (out .exit)) ≡ written 0 (zoomsOf zset) (now (out .entry)) ⌝ }
+    ensures { λ r. ⌜ answeredIn r (now (count .exit)) (now (out .exit)) ≡ written 0 (zoomsOf zset) (now (out .entry)) ⌝ }
 {
     let answer = zoom::zset2zvec(zset, out);
     c_give::count(answer, count)
 }
 
 pub fn zset2zvec_rev(zset: u32, out: &mut [u8], count: &mut u64) -> u8
-    ensures { λ r. ⌜ given r (now (count .exit)) (now (out .exit)) ≡ written 0 (zoomsOfRev zset) (now (out .entry)) ⌝ }
+    ensures { λ r. ⌜ answeredIn r (now (count .exit)) (now (out .exit)) ≡ written 0 (zoomsOfRev zset) (now (out .entry)) ⌝ }
 {
     let answer = zoom::zset2zvec_rev(zset, out);
     c_give::count(answer, count)

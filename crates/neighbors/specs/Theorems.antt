@@ -22,7 +22,8 @@ use Rattle.tile.specs.declared.Tile.{Tile}
 use Rattle.neighbors.specs.Neighbors.{around, near, nearOf, orderOf, neighborsOf}
 use Rattle.neighbors.specs.Laws.{neighbors-deep}
 use Rattle.neighbors.specs.AsRust.{none-struck, arm-struck, arm-within, arm-fits, wrapped-block}
-use Rattle.neighbors.specs.Members.{around-square, square-around, OnSquare, near-on-square, on-square-near, mem-on-map, square-back, square-self, around-once}
+use Rattle.neighbors.specs.Members.{around-square, square-around, OnSquare, near-on-square, on-square-near, mem-on-map, square-back}
+use Rattle.neighbors.specs.Members.{square-self, around-once}
 use Rattle.neighbors.specs.Rust.{TopLeft, edgeBy, rustEdge, neighborsArm, rustNeighbors, rustNeighborsWrapX, armBy, armOf, tilesAt, struck}
 
 -- The Rust is held to tiles of zoom 0 to 29. On them no check fails.
@@ -100,7 +101,8 @@ beside-around x y z t = (there, back)
         let s = 3 * (t .x + 1 - x) + (t .y + 1 - y) in
         let c : s / 3 ≡ t .x + 1 - x = omega (arith, b .rows) in
         let r : s % 3 ≡ t .y + 1 - y = omega (arith, b .rows) in
-        let p : OnSquare x y z s t = record { column = omega arith; row = omega arith; zoom = b .zoom; column-small = b .on-map .0; row-small = b .on-map .1 } in
+        let p : OnSquare x y z s t =
+        record { column = omega arith; row = omega arith; zoom = b .zoom; column-small = b .on-map .0; row-small = b .on-map .1 } in
         into-gather (near x y z) s around
         (square-around s (omega (arith, b .columns, b .rows)) (λ e. b .another (omega arith) (omega arith))) (on-square-near x y z s t p)
 

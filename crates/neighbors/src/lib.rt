@@ -26,6 +26,7 @@ pub enum Spot {
     Off,
 }
 
+// The tiles of the map around a tile, in the Rust's order: none at zoom 0, the siblings at zoom 1.
 pub fn neighbors(x: u32, y: u32, z: u8, out: &mut [u64]) -> Count
     ensures { λ r. ⌜ left r (now (out .exit)) ≡ neighborsWritten false x y z (now (out .entry)) ⌝ }
 {

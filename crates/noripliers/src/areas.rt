@@ -2,7 +2,7 @@
 // tile beside its own ancestor, no four siblings together: no shorter list covers the same ground, and no other settled one.
 ghost use mathlib.Core.Path.{_≡_};
 ghost use Rattle.area.specs.Area.{commonOf, differenceOf, unionOf};
-ghost use Rattle.c_give.specs.Exported.{answered, asByte, given};
+ghost use Rattle.c_give.specs.Exported.{answered, asByte, answeredIn};
 ghost use Rattle.settled.specs.Answers.{isSettledOf};
 
 // The settled list of the ground in either list. out needs a place for each entry of both; those that the answer leaves
@@ -10,7 +10,7 @@ ghost use Rattle.settled.specs.Answers.{isSettledOf};
 // Refused: 6, 7, 11, 12.
 #[no_mangle]
 pub extern "C" fn nori_union(a: &[u64], b: &[u64], out: &mut [u64], count: &mut u64) -> u8
-    ensures { λ r. ⌜ given r (now (count .exit)) (now (out .exit)) ≡ unionOf (now (a .entry)) (now (b .entry)) (now (out .entry)) ⌝ }
+    ensures { λ r. ⌜ answeredIn r (now (count .exit)) (now (out .exit)) ≡ unionOf (now (a .entry)) (now (b .entry)) (now (out .entry)) ⌝ }
 {
     c_merge::union(a, b, out, count)
 }
@@ -20,7 +20,7 @@ pub extern "C" fn nori_union(a: &[u64], b: &[u64], out: &mut [u64], count: &mut 
 // Refused: 6, 7, 11, 12.
 #[no_mangle]
 pub extern "C" fn nori_common_part(a: &[u64], b: &[u64], out: &mut [u64], count: &mut u64) -> u8
-    ensures { λ r. ⌜ given r (now (count .exit)) (now (out .exit)) ≡ commonOf (now (a .entry)) (now (b .entry)) (now (out .entry)) ⌝ }
+    ensures { λ r. ⌜ answeredIn r (now (count .exit)) (now (out .exit)) ≡ commonOf (now (a .entry)) (now (b .entry)) (now (out .entry)) ⌝ }
 {
     c_merge::common_part(a, b, out, count)
 }
@@ -30,7 +30,7 @@ pub extern "C" fn nori_common_part(a: &[u64], b: &[u64], out: &mut [u64], count:
 // Refused: 6, 7, 11, 12.
 #[no_mangle]
 pub extern "C" fn nori_difference(a: &[u64], b: &[u64], out: &mut [u64], count: &mut u64) -> u8
-    ensures { λ r. ⌜ given r (now (count .exit)) (now (out .exit)) ≡ differenceOf (now (a .entry)) (now (b .entry)) (now (out .entry)) ⌝ }
+    ensures { λ r. ⌜ answeredIn r (now (count .exit)) (now (out .exit)) ≡ differenceOf (now (a .entry)) (now (b .entry)) (now (out .entry)) ⌝ }
 {
     c_merge::difference(a, b, out, count)
 }

@@ -3,7 +3,7 @@ ghost use mathlib.Core.Path.{_≡_};
 ghost use Prim.Native.Nat.{_+_};
 ghost use mathlib.Core.Bool.{true, false};
 ghost use Rattle.c_fns.specs.Limits.{limitsAt};
-ghost use Rattle.c_give.specs.Exported.{answered, asByte, given, never};
+ghost use Rattle.c_give.specs.Exported.{answered, asByte, answeredIn, never};
 ghost use Rattle.c_ids.specs.OffsetZoom.{offsetZoomAt};
 ghost use Rattle.children.specs.Children.{childrenOf, clockwise, zOrder};
 ghost use Rattle.errors.specs.Answer.{answer};
@@ -80,7 +80,7 @@ pub extern "C" fn nori_children(
     out: &mut [u64],
     count: &mut u64,
 ) -> u8
-    ensures { λ r. ⌜ given r (now (count .exit)) (now (out .exit)) ≡ childrenOf clockwise x y z zoom (now (out .entry)) ⌝ }
+    ensures { λ r. ⌜ answeredIn r (now (count .exit)) (now (out .exit)) ≡ childrenOf clockwise x y z zoom (now (out .entry)) ⌝ }
 {
     c_fns::children(x, y, z, zoom, out, count)
 }
@@ -96,7 +96,7 @@ pub extern "C" fn nori_children_zorder(
     out: &mut [u64],
     count: &mut u64,
 ) -> u8
-    ensures { λ r. ⌜ given r (now (count .exit)) (now (out .exit)) ≡ childrenOf zOrder x y z zoom (now (out .entry)) ⌝ }
+    ensures { λ r. ⌜ answeredIn r (now (count .exit)) (now (out .exit)) ≡ childrenOf zOrder x y z zoom (now (out .entry)) ⌝ }
 {
     c_fns::children_zorder(x, y, z, zoom, out, count)
 }
@@ -111,7 +111,7 @@ pub extern "C" fn nori_children1_zorder(
     out: &mut [u64],
     count: &mut u64,
 ) -> u8
-    ensures { λ r. ⌜ given r (now (count .exit)) (now (out .exit)) ≡ childrenOf zOrder x y z (z + 1) (now (out .entry)) ⌝ }
+    ensures { λ r. ⌜ answeredIn r (now (count .exit)) (now (out .exit)) ≡ childrenOf zOrder x y z (z + 1) (now (out .entry)) ⌝ }
 {
     c_fns::children1_zorder(x, y, z, out, count)
 }
@@ -120,7 +120,7 @@ pub extern "C" fn nori_children1_zorder(
 // Refused: 1, 2, 3, 12.
 #[no_mangle]
 pub extern "C" fn nori_siblings(x: u32, y: u32, z: u8, out: &mut [u64], count: &mut u64) -> u8
-    ensures { λ r. ⌜ given r (now (count .exit)) (now (out .exit)) ≡ siblingsWritten x y z (now (out .entry)) ⌝ }
+    ensures { λ r. ⌜ answeredIn r (now (count .exit)) (now (out .exit)) ≡ siblingsWritten x y z (now (out .entry)) ⌝ }
 {
     c_fns::siblings(x, y, z, out, count)
 }
@@ -129,7 +129,7 @@ pub extern "C" fn nori_siblings(x: u32, y: u32, z: u8, out: &mut [u64], count: &
 // Refused: 1, 2, 12.
 #[no_mangle]
 pub extern "C" fn nori_neighbors(x: u32, y: u32, z: u8, out: &mut [u64], count: &mut u64) -> u8
-    ensures { λ r. ⌜ given r (now (count .exit)) (now (out .exit)) ≡ neighborsWritten false x y z (now (out .entry)) ⌝ }
+    ensures { λ r. ⌜ answeredIn r (now (count .exit)) (now (out .exit)) ≡ neighborsWritten false x y z (now (out .entry)) ⌝ }
 {
     c_fns::neighbors(x, y, z, out, count)
 }
@@ -144,7 +144,7 @@ pub extern "C" fn nori_neighbors_wrap_x(
     out: &mut [u64],
     count: &mut u64,
 ) -> u8
-    ensures { λ r. ⌜ given r (now (count .exit)) (now (out .exit)) ≡ neighborsWritten true x y z (now (out .entry)) ⌝ }
+    ensures { λ r. ⌜ answeredIn r (now (count .exit)) (now (out .exit)) ≡ neighborsWritten true x y z (now (out .entry)) ⌝ }
 {
     c_fns::neighbors_wrap_x(x, y, z, out, count)
 }

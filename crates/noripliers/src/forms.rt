@@ -4,7 +4,7 @@ use form_stream::KEPT;
 ghost use mathlib.Core.Path.{_≡_};
 ghost use mathlib.Core.List.{[]};
 ghost use lib.ListN.{take};
-ghost use Rattle.c_give.specs.Exported.{given};
+ghost use Rattle.c_give.specs.Exported.{answeredIn};
 ghost use Rattle.errors.specs.Answer.{written};
 ghost use Rattle.form.specs.Reading.{lineRefusal};
 ghost use Rattle.form_area.specs.Area.{areaWritten};
@@ -26,7 +26,7 @@ pub extern "C" fn nori_form_check(line: &[u8]) -> u8
 // Refused: 4, 5, 12, 13, 14, 15.
 #[no_mangle]
 pub extern "C" fn nori_form_area(line: &[u8], out: &mut [u64], count: &mut u64) -> u8
-    ensures { λ r. ⌜ given r (now (count .exit)) (now (out .exit)) ≡ areaWritten (now (line .entry)) (now (out .entry)) ⌝ }
+    ensures { λ r. ⌜ answeredIn r (now (count .exit)) (now (out .exit)) ≡ areaWritten (now (line .entry)) (now (out .entry)) ⌝ }
 {
     c_forms::area(line, out, count)
 }
@@ -36,7 +36,7 @@ pub extern "C" fn nori_form_area(line: &[u8], out: &mut [u64], count: &mut u64) 
 // Refused: 12.
 #[no_mangle]
 pub extern "C" fn nori_form_answer(line: &[u8], out: &mut [u8], count: &mut u64) -> u8
-    ensures { λ r. ⌜ given r (now (count .exit)) (now (out .exit)) ≡ lineWritten (now (line .entry)) (now (out .entry)) ⌝ }
+    ensures { λ r. ⌜ answeredIn r (now (count .exit)) (now (out .exit)) ≡ lineWritten (now (line .entry)) (now (out .entry)) ⌝ }
 {
     c_forms::answer(line, out, count)
 }
@@ -71,7 +71,7 @@ pub extern "C" fn nori_form_finish(
     out: &mut [u8],
     count: &mut u64,
 ) -> u8
-    ensures { λ r. ⌜ given r (now (count .exit)) (now (out .exit)) ≡ written 0 (said (take len (now (line .entry))) []) (now (out .entry)) ⌝ }
+    ensures { λ r. ⌜ answeredIn r (now (count .exit)) (now (out .exit)) ≡ written 0 (said (take len (now (line .entry))) []) (now (out .entry)) ⌝ }
 {
     c_forms::finish(line, len, out, count)
 }

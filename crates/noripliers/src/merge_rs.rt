@@ -1,7 +1,7 @@
 // Lists of tiles in any order, repeats read as one: the calls of merge.rs. The answer is in the order of nori_cmp. out needs a
 // place for each entry of the list; those that the answer leaves are set to 0. The minimum zoom is any byte, the Rust's None is 0.
 ghost use mathlib.Core.Path.{_≡_};
-ghost use Rattle.c_give.specs.Exported.{given};
+ghost use Rattle.c_give.specs.Exported.{answeredIn};
 ghost use Rattle.c_merge.specs.Merged.{givenMerge, inNumbers};
 ghost use Rattle.merge.specs.Merge.{mergeOf, simplifyOf, simplifyV1Of};
 
@@ -31,7 +31,7 @@ pub extern "C" fn nori_simplify_v1(
     out: &mut [u64],
     count: &mut u64,
 ) -> u8
-    ensures { λ r. ⌜ given r (now (count .exit)) (now (out .exit)) ≡ simplifyV1Of (now (list .entry)) minzoom (now (out .entry)) ⌝ }
+    ensures { λ r. ⌜ answeredIn r (now (count .exit)) (now (out .exit)) ≡ simplifyV1Of (now (list .entry)) minzoom (now (out .entry)) ⌝ }
 {
     c_merge::simplify_v1(list, minzoom, out, count)
 }
@@ -42,7 +42,7 @@ pub extern "C" fn nori_simplify_v1(
 // Refused: 6, 7, 12.
 #[no_mangle]
 pub extern "C" fn nori_simplify(list: &[u64], minzoom: u8, out: &mut [u64], count: &mut u64) -> u8
-    ensures { λ r. ⌜ given r (now (count .exit)) (now (out .exit)) ≡ simplifyOf (now (list .entry)) minzoom (now (out .entry)) ⌝ }
+    ensures { λ r. ⌜ answeredIn r (now (count .exit)) (now (out .exit)) ≡ simplifyOf (now (list .entry)) minzoom (now (out .entry)) ⌝ }
 {
     c_merge::simplify(list, minzoom, out, count)
 }

@@ -1,6 +1,6 @@
 // Quadkeys: the calls of quadkey.rs. A key is a byte '0' to '3' for each zoom from 1 on; the root's key is empty.
 ghost use mathlib.Core.Path.{_≡_};
-ghost use Rattle.c_give.specs.Exported.{answered, asByte, given, never};
+ghost use Rattle.c_give.specs.Exported.{answered, asByte, answeredIn, never};
 ghost use Rattle.c_quadkey.specs.Part.{partLength};
 ghost use Rattle.key_parts.specs.Parts.{ancestorRefusal, leadingPart, sharedLength, sharedRefusal};
 ghost use Rattle.quadkey.specs.Key.{flipWritten, isDigit, isKey, keyRefusal, keyTile, keyWritten};
@@ -10,7 +10,7 @@ ghost use Rattle.tile.specs.OnMap.{tileAt};
 // Refused: 1, 2, 12.
 #[no_mangle]
 pub extern "C" fn nori_xyz2quadkey(x: u32, y: u32, z: u8, out: &mut [u8], count: &mut u64) -> u8
-    ensures { λ r. ⌜ given r (now (count .exit)) (now (out .exit)) ≡ keyWritten 48 x y z (now (out .entry)) ⌝ }
+    ensures { λ r. ⌜ answeredIn r (now (count .exit)) (now (out .exit)) ≡ keyWritten 48 x y z (now (out .entry)) ⌝ }
 {
     c_quadkey::xyz2quadkey(x, y, z, out, count)
 }
@@ -19,7 +19,7 @@ pub extern "C" fn nori_xyz2quadkey(x: u32, y: u32, z: u8, out: &mut [u8], count:
 // Refused: 1, 2, 12.
 #[no_mangle]
 pub extern "C" fn nori_xyz2quadkey_vec(x: u32, y: u32, z: u8, out: &mut [u8], count: &mut u64) -> u8
-    ensures { λ r. ⌜ given r (now (count .exit)) (now (out .exit)) ≡ keyWritten 0 x y z (now (out .entry)) ⌝ }
+    ensures { λ r. ⌜ answeredIn r (now (count .exit)) (now (out .exit)) ≡ keyWritten 0 x y z (now (out .entry)) ⌝ }
 {
     c_quadkey::xyz2quadkey_vec(x, y, z, out, count)
 }
@@ -64,7 +64,7 @@ pub extern "C" fn nori_is_quadkey_byte(b: u8, told: &mut u8) -> u8
 // Refused: 4, 5, 12.
 #[no_mangle]
 pub extern "C" fn nori_quadkey_flipy(key: &[u8], out: &mut [u8], count: &mut u64) -> u8
-    ensures { λ r. ⌜ given r (now (count .exit)) (now (out .exit)) ≡ flipWritten (now (key .entry)) (now (out .entry)) ⌝ }
+    ensures { λ r. ⌜ answeredIn r (now (count .exit)) (now (out .exit)) ≡ flipWritten (now (key .entry)) (now (out .entry)) ⌝ }
 {
     c_quadkey::flipy(key, out, count)
 }

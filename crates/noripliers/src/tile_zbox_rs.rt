@@ -1,6 +1,6 @@
 // Boxes of tiles: the calls of tile_zbox.rs. A box is a zoom and the least and the greatest x and y, both included.
 ghost use mathlib.Core.Path.{_≡_};
-ghost use Rattle.c_give.specs.Exported.{answered, asByte, given};
+ghost use Rattle.c_give.specs.Exported.{answered, asByte, answeredIn};
 ghost use Rattle.c_zbox_iter.specs.Step.{boxesStepNumbers, stepAt, stepNumbers};
 ghost use Rattle.tile.specs.OnMap.{tileAt};
 ghost use Rattle.tile_zbox_around.specs.Around.{fromTilesOf};
@@ -367,7 +367,7 @@ pub extern "C" fn nori_zboxes_length(boxes: &[u32], length: &mut u64) -> u8
 // Refused: 1, 6, 10, 12.
 #[no_mangle]
 pub extern "C" fn nori_zboxes_flipy(boxes: &[u32], out: &mut [u32], count: &mut u64) -> u8
-    ensures { λ r. ⌜ given r (now (count .exit)) (now (out .exit)) ≡ boxesFlipOf (now (boxes .entry)) (now (out .entry)) ⌝ }
+    ensures { λ r. ⌜ answeredIn r (now (count .exit)) (now (out .exit)) ≡ boxesFlipOf (now (boxes .entry)) (now (out .entry)) ⌝ }
 {
     c_zbox::boxes_flipy(boxes, out, count)
 }

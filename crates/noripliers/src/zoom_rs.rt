@@ -3,7 +3,7 @@
 ghost use mathlib.Core.Path.{_≡_};
 ghost use Prim.Native.Nat.{suc, _-_, _^_};
 ghost use lib.Bits.{bitAnd};
-ghost use Rattle.c_give.specs.Exported.{answered, given, never};
+ghost use Rattle.c_give.specs.Exported.{answered, answeredIn, never};
 ghost use Rattle.c_zoom.specs.Ranges.{givenTwo};
 ghost use Rattle.errors.specs.Answer.{written};
 ghost use Rattle.zoom.specs.Zooms.{andZoom, lastZoom, maxXY, rangeOf, rangeSet, rangesOf, zoomBit, zoomBitRev, zoomsOf, zoomsOfRev, zvecSet, zvecSetRev};
@@ -21,7 +21,7 @@ pub extern "C" fn nori_zoom_max_xy(zoom: u8, max: &mut u32) -> u8
 // Refused: 12.
 #[no_mangle]
 pub extern "C" fn nori_zset2zvec(zset: u32, out: &mut [u8], count: &mut u64) -> u8
-    ensures { λ r. ⌜ given r (now (count .exit)) (now (out .exit)) ≡ written 0 (zoomsOf zset) (now (out .entry)) ⌝ }
+    ensures { λ r. ⌜ answeredIn r (now (count .exit)) (now (out .exit)) ≡ written 0 (zoomsOf zset) (now (out .entry)) ⌝ }
 {
     c_zoom::zset2zvec(zset, out, count)
 }
@@ -30,7 +30,7 @@ pub extern "C" fn nori_zset2zvec(zset: u32, out: &mut [u8], count: &mut u64) -> 
 // Refused: 12.
 #[no_mangle]
 pub extern "C" fn nori_zset2zvec_rev(zset: u32, out: &mut [u8], count: &mut u64) -> u8
-    ensures { λ r. ⌜ given r (now (count .exit)) (now (out .exit)) ≡ written 0 (zoomsOfRev zset) (now (out .entry)) ⌝ }
+    ensures { λ r. ⌜ answeredIn r (now (count .exit)) (now (out .exit)) ≡ written 0 (zoomsOfRev zset) (now (out .entry)) ⌝ }
 {
     c_zoom::zset2zvec_rev(zset, out, count)
 }
@@ -90,7 +90,7 @@ pub extern "C" fn nori_zset_from_zooms(zooms: &[u8], zset: &mut u32) -> u8
 // Refused: 12.
 #[no_mangle]
 pub extern "C" fn nori_zset_to_zooms(zset: u32, out: &mut [u8], count: &mut u64) -> u8
-    ensures { λ r. ⌜ given r (now (count .exit)) (now (out .exit)) ≡ written 0 (zoomsOf zset) (now (out .entry)) ⌝ }
+    ensures { λ r. ⌜ answeredIn r (now (count .exit)) (now (out .exit)) ≡ written 0 (zoomsOf zset) (now (out .entry)) ⌝ }
 {
     c_zoom::zset2zvec(zset, out, count)
 }

@@ -16,6 +16,7 @@ ghost use Rattle.tile.specs.OnMap.{tileCase};
 ghost use Rattle.quadkey.specs.Key.{digitAt, keyFrom, keyWritten, isDigit, allDigits, keyRefusal, isKey, keyTile, flipDigit};
 ghost use Rattle.quadkey.specs.Key.{flipWritten};
 
+// Whether a byte is a digit of a key.
 pub fn is_quadkey_byte(b: u8) -> bool
     ensures { λ r. ⌜ r ≡ isDigit b ⌝ }
 {
@@ -39,6 +40,7 @@ pub fn check(key: &[u8]) -> Check
     Check::Fine
 }
 
+// Whether the bytes are a key, told as yes or no.
 pub fn is_quadkey(key: &[u8]) -> bool
     ensures { λ r. ⌜ r ≡ isKey (now (key .entry)) ⌝ }
 {

@@ -1,8 +1,8 @@
 // Which of several names a call has.
 use crate::parts;
 
-// The place of a name, from 0 on, among names with a space between them. Of one that is not there it is how many they are.
-pub fn place(name: &[u8], names: &[u8]) -> usize {
+// The index of a name, from 0 on, among names with a space between them. Of one that is not there it is how many they are.
+pub fn index(name: &[u8], names: &[u8]) -> usize {
     let mut before = 0;
     let mut at = 0;
     while at < names.len() {

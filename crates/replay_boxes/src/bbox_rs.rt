@@ -18,7 +18,7 @@ pub fn replayed(name: &[u8], given: &[u64], want: &[u64]) -> bool {
 }
 
 fn of_box(name: &[u8], b: BBox, want: &[u64]) -> bool {
-    match names::place(name, b"crosses_antimeridian bboxes") {
+    match names::index(name, b"crosses_antimeridian bboxes") {
         0 => answers::same_bool(b.crosses_antimeridian(), want),
         1 => same_boxes(b.bboxes(), want),
         _ => false,
@@ -33,7 +33,7 @@ fn with_place(name: &[u8], b: BBox, given: &[u64], want: &[u64]) -> bool {
 }
 
 fn with_box(name: &[u8], b: BBox, other: BBox, want: &[u64]) -> bool {
-    let answer = match names::place(name, b"contains_bbox is_within intersects") {
+    let answer = match names::index(name, b"contains_bbox is_within intersects") {
         0 => b.contains_bbox(other),
         1 => b.is_within(other),
         2 => b.intersects(other),

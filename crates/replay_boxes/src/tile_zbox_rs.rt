@@ -24,7 +24,7 @@ ghost use Rattle.errors.specs.Cases.{u64Case};
 ghost use Rattle.tile_zbox_numbers.specs.Boxes.{boxesLengthOf};
 
 pub fn replayed(name: &[u8], given: &[u64], want: &[u64]) -> bool {
-    match names::place(name, b"from_tile from_tiles boxes_length boxes_next") {
+    match names::index(name, b"from_tile from_tiles boxes_length boxes_next") {
         0 => args::fit(given, 441) && from_tile(args::tile(given, 0), want),
         1 => from_tiles(given, want),
         2 => boxes_length(given, want),
@@ -141,7 +141,7 @@ fn lend(boxes: [TileZBox; 40], n: usize) -> U64Answer
 // The calls whose arguments begin with a box.
 fn of_one(name: &[u8], given: &[u64], want: &[u64]) -> bool {
     let b = box_at(given);
-    match names::place(name, b"zoom_depth contains_tile size_hint") {
+    match names::index(name, b"zoom_depth contains_tile size_hint") {
         0 => args::fit(given, 144441) && same_box(b.zoom_depth(args::byte(given, 5)), want),
         1 => args::fit(given, 14444441) && contains_tile(b, args::tile(given, 5), want),
         2 => args::fit(given, 144448) && size_hint(b, args::number(given, 5), want),
@@ -150,7 +150,7 @@ fn of_one(name: &[u8], given: &[u64], want: &[u64]) -> bool {
 }
 
 fn of_box(name: &[u8], b: TileZBox, want: &[u64]) -> bool {
-    match names::place(name, b"flipy zoom_in dimensions dxdy length iter") {
+    match names::index(name, b"flipy zoom_in dimensions dxdy length iter") {
         0 => same_box(b.flipy(), want) && answers::same_check(b.check(), want),
         1 => same_box(b.zoom_in(), want),
         2 => same_extent(b.dimensions(), want),

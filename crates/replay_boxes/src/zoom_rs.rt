@@ -11,7 +11,7 @@ use zoom::ZoomSet;
 use zoom::ZoomSetAnswer;
 
 pub fn replayed(name: &[u8], given: &[u64], want: &[u64]) -> bool {
-    match names::place(name, b"zvec2zset zvec2zset_rev all zoom_max_xy") {
+    match names::index(name, b"zvec2zset zvec2zset_rev all zoom_max_xy") {
         0 => of_zooms(name, given, want),
         1 => of_zooms(name, given, want),
         2 => given.len() == 0 && says_set(ZoomSet::all(), want),
@@ -46,7 +46,7 @@ fn of_set(name: &[u8], given: &[u64], want: &[u64]) -> bool {
 }
 
 fn of_bits(name: &[u8], zset: u32, want: &[u64]) -> bool {
-    match names::place(name, b"zset2zvec zset2zvec_rev zoom_ranges") {
+    match names::index(name, b"zset2zvec zset2zvec_rev zoom_ranges") {
         0 => zset2zvec(zset, want) && to_zooms(ZoomSet::new(zset), want),
         1 => zset2zvec_rev(zset, want),
         2 => zoom_ranges(zset, want) && ranges_of(ZoomSet::new(zset), want),
@@ -101,7 +101,7 @@ fn same_ranges(answer: Count, lows: &[u8], highs: &[u8], want: &[u64]) -> bool {
 
 fn common(name: &[u8], set: ZoomSet, given: &[u64], want: &[u64]) -> bool {
     let other = args::word(given, 1);
-    match names::place(name, b"and and_zoom") {
+    match names::index(name, b"and and_zoom") {
         0 => says_set(set.and(ZoomSet::new(other)), want) && says_set(set.and_bits(other), want),
         1 => args::fit(given, 41) && same_set(set.and_zoom(args::byte(given, 1)), want),
         _ => false,

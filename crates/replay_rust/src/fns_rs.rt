@@ -22,7 +22,7 @@ pub fn replayed(name: &[u8], given: &[u64], want: &[u64]) -> bool {
 
 fn of_number(name: &[u8], given: &[u64], want: &[u64]) -> bool {
     let n = args::number(given, 0);
-    match names::place(name, b"minmax from_id rmid2xyz int_2_offset_zoom") {
+    match names::index(name, b"minmax from_id rmid2xyz int_2_offset_zoom") {
         0 => args::fit(given, 1) && minmax(args::byte(given, 0), want),
         1 => answers::same_tile(ids::from_id(n), want),
         2 => answers::same_tile(ids::rmid2xyz(n), want),
@@ -53,7 +53,7 @@ fn of_row(name: &[u8], given: &[u64], want: &[u64]) -> bool {
     }
     let y = args::word(given, 0);
     let z = args::byte(given, 1);
-    let answer = match names::place(name, b"flipy yflip") {
+    let answer = match names::index(name, b"flipy yflip") {
         0 => fns::flipy(y, z),
         1 => fns::yflip(y, z),
         _ => {
@@ -65,7 +65,7 @@ fn of_row(name: &[u8], given: &[u64], want: &[u64]) -> bool {
 
 fn of_tile(name: &[u8], t: Tile, want: &[u64]) -> bool {
     let mut out = [BLANK; 64];
-    match names::place(name, b"valid to_id xyz2rmid") {
+    match names::index(name, b"valid to_id xyz2rmid") {
         0 => answers::same_bool(fns::valid(t.x, t.y, t.z), want),
         1 => answers::same_u64(ids::to_id(t.x, t.y, t.z), want),
         2 => answers::same_u64(ids::xyz2rmid(t.x, t.y, t.z), want),
@@ -76,7 +76,7 @@ fn of_tile(name: &[u8], t: Tile, want: &[u64]) -> bool {
 // The calls that list a few tiles.
 fn beside(name: &[u8], t: Tile, out: &mut [u64], want: &[u64]) -> bool {
     let Tile { x, y, z } = t;
-    match names::place(
+    match names::index(
         name,
         b"children1_zorder siblings neighbors neighbors_wrap_x",
     ) {
@@ -109,7 +109,7 @@ fn bbox2zoom(given: &[u64], want: &[u64]) -> bool {
 // The last argument counts zooms, or names one, or is None.
 fn of_tile_and_zooms(name: &[u8], t: Tile, n: OptionU8, out: &mut [u64], want: &[u64]) -> bool {
     let Tile { x, y, z } = t;
-    match names::place(name, b"parent children children_zorder") {
+    match names::index(name, b"parent children children_zorder") {
         0 => answers::same_tile(fns::parent(x, y, z, n), want),
         1 => lists::same_list(children::children(x, y, z, n, out), 0, out, want),
         2 => lists::same_list(children::children_zorder(x, y, z, n, out), 0, out, want),

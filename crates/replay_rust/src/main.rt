@@ -41,7 +41,7 @@ fn main() {
 
 // The number of a module, by which `replayed` knows it. No call of one that is not there is as the list says.
 fn module_of(name: &[u8]) -> usize {
-    names::place(
+    names::index(
         name,
         b"sibling_relationship tile quadkey fns parent tile_zbox zoom bbox merge",
     )

@@ -30,7 +30,7 @@ pub fn replayed(name: &[u8], given: &[u64], want: &[u64]) -> bool {
 
 fn of_tiles(name: &[u8], tiles: &[u64], m: OptionU8, out: &mut [u64], want: &[u64]) -> bool {
     let n = tiles.len();
-    match names::place(name, b"merge simplify simplify_v1") {
+    match names::index(name, b"merge simplify simplify_v1") {
         0 => same_merged(merge::merge(tiles, m, out), n, out, want),
         1 => lists::same_list(merge::simplify(tiles, m, out), n, out, want),
         2 => lists::same_list(merge::simplify_v1(tiles, m, out), n, out, want),

@@ -9,7 +9,7 @@ use tile::Tile;
 
 pub fn replayed(name: &[u8], given: &[u64], want: &[u64]) -> bool {
     let mut out = [BLANK; 64];
-    match names::place(name, b"is_quadkey_byte xyz2quadkey xyz2quadkey_vec") {
+    match names::index(name, b"is_quadkey_byte xyz2quadkey xyz2quadkey_vec") {
         0 => is_quadkey_byte(given, want),
         1 => args::fit(given, 441) && xyz2quadkey(args::tile(given, 0), &mut out, want),
         2 => args::fit(given, 441) && xyz2quadkey_vec(args::tile(given, 0), &mut out, want),
@@ -38,7 +38,7 @@ fn of_bytes(name: &[u8], given: &[u64], out: &mut [u8], want: &[u64]) -> bool {
 }
 
 fn of_key(name: &[u8], key: &[u8], out: &mut [u8], want: &[u64]) -> bool {
-    match names::place(name, b"quadkey2xyz is_quadkey quadkey_flipy") {
+    match names::index(name, b"quadkey2xyz is_quadkey quadkey_flipy") {
         0 => {
             answers::same_tile(quadkey::quadkey2xyz(key), want)
                 && answers::same_check(quadkey::check(key), want)

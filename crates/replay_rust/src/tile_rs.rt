@@ -18,7 +18,7 @@ fn of_tile(name: &[u8], t: Tile, want: &[u64]) -> bool {
         return answers::same_tile(Tile::try_new(t.x, t.y, t.z), want)
             && answers::same_check(tile::check(t.x, t.y, t.z), want);
     }
-    let answer = match names::place(
+    let answer = match names::index(
         name,
         b"flip up down left right up_left up_right down_left down_right",
     ) {

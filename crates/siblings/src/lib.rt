@@ -6,6 +6,7 @@ ghost use mathlib.Core.Path.{_≡_};
 ghost use Rattle.errors.specs.Cases.{left};
 ghost use Rattle.siblings.specs.Siblings.{other, siblingsWritten};
 
+// The other three children of the tile's parent: beside it, above or below it, and across.
 pub fn siblings(x: u32, y: u32, z: u8, out: &mut [u64]) -> Count
     ensures { λ r. ⌜ left r (now (out .exit)) ≡ siblingsWritten x y z (now (out .entry)) ⌝ }
 {

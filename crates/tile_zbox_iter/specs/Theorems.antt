@@ -23,7 +23,7 @@ pub the-cursor-gives-the-tiles-row-by-row : (b : TileZBox) → IsBox b → Curso
 the-cursor-gives-the-tiles-row-by-row b i =
     let e : 0 + boxLength b ≡ boxLength b = omega arith in
     subst (λ (l : List Tile). CursorGives (cursorAt b 0) l (cursorAt b (boxLength b))) (numbered-all b)
-        (rw e at (gives-numbered b 0 (boxLength b) i (omega arith)))
+    (rw e at (gives-numbered b 0 (boxLength b) i (omega arith)))
 
 -- at its end it gives no tile, and stays there
 pub then-it-has-ended-for-ever : (b : TileZBox) → IsBox b

@@ -1,9 +1,9 @@
--- `replay::names::place` is safe and ends: each name ends past its start, and takes a byte or more.
+-- `replay::names::index` is safe and ends: each name ends past its start, and takes a byte or more.
 use Prim.Native.Nat.{_≤_, _-_}
 use lib.ListN.{length}
 use borrow.Author.Needs.{needs}
-use Rattle.replay.proofs.names.place.Statement.{statement}
-use Rattle.replay.proofs.names.place.Tie as tie
+use Rattle.replay.proofs.names.index.Statement.{statement}
+use Rattle.replay.proofs.names.index.Tie as tie
 
 abbrev Inv-loop : tie.InvT-loop
 Inv-loop name names before₀ at₀ before at = before ≤ at
@@ -47,8 +47,8 @@ loop-again c = search needs
 returns-2 : tie.Need-returns-2 Inv-loop μ-loop
 returns-2 c = search needs
 
-pub place-spec : {M : Type 1} → statement M
-place-spec =
+pub index-spec : {M : Type 1} → statement M
+index-spec =
     tie.close
     (tie.spec
     Inv-loop
