@@ -3,12 +3,12 @@ use fns::LimitsAnswer;
 use tile::OptionU8;
 ghost use mathlib.Core.Path.{_≡_};
 ghost use Prim.Native.Nat.{_+_};
-ghost use mathlib.Core.Bool.{true, false};
 ghost use Rattle.c_give.specs.Exported.{answered, asByte, answeredIn, never};
 ghost use Rattle.c_fns.specs.Limits.{limitsAt};
 ghost use Rattle.children.specs.Children.{childrenOf, clockwise, zOrder};
 ghost use Rattle.fns.specs.Fns.{bbox2zoomOf, flipyOf, isTile, minMaxCase, minMaxOf, parentOf};
 ghost use Rattle.neighbors.specs.Neighbors.{neighborsWritten};
+ghost use Rattle.neighbors.specs.declared.Seam.the-variants.{Cut, Wrapped};
 ghost use Rattle.siblings.specs.Siblings.{siblingsWritten};
 ghost use Rattle.tile.specs.OnMap.{tileAt};
 
@@ -82,14 +82,14 @@ pub fn siblings(x: u32, y: u32, z: u8, out: &mut [u64], count: &mut u64) -> u8
 }
 
 pub fn neighbors(x: u32, y: u32, z: u8, out: &mut [u64], count: &mut u64) -> u8
-    ensures { λ r. ⌜ answeredIn r (now (count .exit)) (now (out .exit)) ≡ neighborsWritten false x y z (now (out .entry)) ⌝ }
+    ensures { λ r. ⌜ answeredIn r (now (count .exit)) (now (out .exit)) ≡ neighborsWritten Cut x y z (now (out .entry)) ⌝ }
 {
     let answer = neighbors::neighbors(x, y, z, out);
     c_give::count(answer, count)
 }
 
 pub fn neighbors_wrap_x(x: u32, y: u32, z: u8, out: &mut [u64], count: &mut u64) -> u8
-    ensures { λ r. ⌜ answeredIn r (now (count .exit)) (now (out .exit)) ≡ neighborsWritten true x y z (now (out .entry)) ⌝ }
+    ensures { λ r. ⌜ answeredIn r (now (count .exit)) (now (out .exit)) ≡ neighborsWritten Wrapped x y z (now (out .entry)) ⌝ }
 {
     let answer = neighbors::neighbors_wrap_x(x, y, z, out);
     c_give::count(answer, count)

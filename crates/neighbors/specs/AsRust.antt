@@ -22,6 +22,7 @@ use Rattle.tile.specs.Rust.{To29, rustAlong}
 use Rattle.tile.specs.declared.Step.the-variants.{Back}
 use Rattle.tile.specs.declared.Tile.{Tile}
 use Rattle.neighbors.specs.Neighbors.{around, aroundWrapped, inside, near, nearWrapped}
+use Rattle.neighbors.specs.declared.Seam.the-variants.{Cut}
 use Rattle.neighbors.specs.Rust.{neighborsArm, remEuclid, asU32, plusI64, wrapStep, wrapSteps, wrapTiles, armBy, tilesAt, kept, struck}
 use Rattle.neighbors.specs.Laws.{below-one, near-off-row}
 
@@ -54,7 +55,7 @@ module _ (x y z : ℕ) where
   no-column s h = rw (below-one (2 ^ z) x (s / 3) h)
 
   no-row : (s : ℕ) → y + s % 3 < 1 → near x y z s ≡ []
-  no-row s h = sym (near-off-row false x y z s (below-one (2 ^ z) y (s % 3) h))
+  no-row s h = sym (near-off-row Cut x y z s (below-one (2 ^ z) y (s % 3) h))
 
   -- the block in its order, by what stands at the five squares that column 0 or row 0 may lack
   block : {w n nw ne sw : List Tile} → near x y z 1 ≡ w → near x y z 3 ≡ n → near x y z 0 ≡ nw → near x y z 6 ≡ ne → near x y z 2 ≡ sw

@@ -16,6 +16,8 @@ use Rattle.tile.specs.Order.{tile-ext}
 use Rattle.tile.specs.declared.Tile.{Tile}
 use Rattle.neighbors.specs.Neighbors.{around, inside, near, nearOf, orderOf}
 use Rattle.bits.specs.Tests.{and-parts, allOf, all-in}
+use Rattle.neighbors.specs.declared.Seam.{Seam}
+use Rattle.neighbors.specs.declared.Seam.the-variants.{Cut, Wrapped}
 use Rattle.neighbors.specs.Laws.{near-on-map}
 use Rattle.neighbors.specs.AsRust.{near-at}
 
@@ -36,18 +38,18 @@ holds-mem s (a ∷ l) e = pick (eqb s a) refl e (holds-mem s l)
 abbrev notMiddle : ℕ → Bool
 notMiddle s = ltb s 9 && not (eqb s 4)
 
-never-middle : (wrap : Bool) → allOf notMiddle (orderOf wrap) ≡ true
+never-middle : (seam : Seam) → allOf notMiddle (orderOf seam) ≡ true
 unfolding allOf
-never-middle true = refl
-never-middle false = refl
+never-middle Wrapped = refl
+never-middle Cut = refl
 
 not-true : (b : Bool) → not b ≡ true → b ≡ false
 not-true true e = let z : _≡_ {A = ℕ} 0 1 = cc in absurd (omega arith)
 not-true false e = refl
 
-pub around-square : (wrap : Bool) {s : ℕ} → List·Memᴰ s (orderOf wrap) → (s < 9) × (s ≡ 4 → ⊥)
-around-square wrap {s} m =
-    let p = and-parts (ltb s 9) (not (eqb s 4)) (all-in notMiddle (orderOf wrap) (never-middle wrap) m) in
+pub around-square : (seam : Seam) {s : ℕ} → List·Memᴰ s (orderOf seam) → (s < 9) × (s ≡ 4 → ⊥)
+around-square seam {s} m =
+    let p = and-parts (ltb s 9) (not (eqb s 4)) (all-in notMiddle (orderOf seam) (never-middle seam) m) in
     (ltb-true s 9 (p .0), eqb-false s 4 (not-true (eqb s 4) (p .1)))
 
 pub square-around : (s : ℕ) → s < 9 → (s ≡ 4 → ⊥) → List·Memᴰ s around
@@ -98,29 +100,29 @@ on-square-near x y z s t p =
     rw (near-at x y z s (t .x) (t .y) (sym (p .column)) (sym (p .row)), lt-ltb _ _ (p .column-small), lt-ltb _ _ (p .row-small)) (List·Memᴰ·head e)
 
 -- a tile at a square, on either kind of map, is the one tile of that square
-near-one : (wrap : Bool) (x y z s : ℕ) (t : Tile) → List·Memᴰ t (nearOf wrap x y z s) → (tileAt (t .x) (t .y) z ∷ [] ≡ nearOf wrap x y z s) × (t .z ≡ z)
-near-one true x y z s t m =
+near-one : (seam : Seam) (x y z s : ℕ) (t : Tile) → List·Memᴰ t (nearOf seam x y z s) → (tileAt (t .x) (t .y) z ∷ [] ≡ nearOf seam x y z s) × (t .z ≡ z)
+near-one Wrapped x y z s t m =
     let k = mem-test (inside (2 ^ z) y (s % 3)) m in
     (rw (k .0) (ap (λ (u : Tile). tileAt (u .x) (u .y) z ∷ []) (k .1)), ap (λ (u : Tile). u .z) (k .1))
-near-one false x y z s t m =
+near-one Cut x y z s t m =
     let k = mem-test (inside (2 ^ z) x (s / 3) && inside (2 ^ z) y (s % 3)) m in
     (rw (k .0) (ap (λ (u : Tile). tileAt (u .x) (u .y) z ∷ []) (k .1)), ap (λ (u : Tile). u .z) (k .1))
 
-pub mem-on-map : (wrap : Bool) (x y z s : ℕ) (t : Tile) → OnMap x y z → List·Memᴰ t (nearOf wrap x y z s) → OnMap (t .x) (t .y) (t .z)
-mem-on-map wrap x y z s t m k = let e = near-one wrap x y z s t k in rw (e .1) (near-on-map wrap x y z s (t .x) (t .y) m (e .0))
+pub mem-on-map : (seam : Seam) (x y z s : ℕ) (t : Tile) → OnMap x y z → List·Memᴰ t (nearOf seam x y z s) → OnMap (t .x) (t .y) (t .z)
+mem-on-map seam x y z s t m k = let e = near-one seam x y z s t k in rw (e .1) (near-on-map seam x y z s (t .x) (t .y) m (e .0))
 
 -- the square of a tile
-abbrev squareOf : Bool → ℕ → ℕ → ℕ → Tile → ℕ
-squareOf true x y side t = 3 * ((t .x + (1 + (side - x))) % side) + (t .y + 1 - y)
-squareOf false x y side t = 3 * (t .x + 1 - x) + (t .y + 1 - y)
+abbrev squareOf : Seam → ℕ → ℕ → ℕ → Tile → ℕ
+squareOf Wrapped x y side t = 3 * ((t .x + (1 + (side - x))) % side) + (t .y + 1 - y)
+squareOf Cut x y side t = 3 * (t .x + 1 - x) + (t .y + 1 - y)
 
 wrapped-back : (x c side : ℕ) → x < side → c < side → ((x + c + side - 1) % side + (1 + (side - x))) % side ≡ c
 wrapped-back x c side h k =
     let e : x + c + side - 1 + (1 + (side - x)) ≡ c + side + side = omega arith in
     rw (mod-add-mod (x + c + side - 1) side (1 + (side - x)), e, add-mod-right (c + side) side, add-mod-right c side, mod-eq-of-lt k)
 
-pub square-back : (wrap : Bool) (x y z s : ℕ) (t : Tile) → x < 2 ^ z → 4 ≤ 2 ^ z → s < 9 → List·Memᴰ t (nearOf wrap x y z s) → squareOf wrap x y (2 ^ z) t ≡ s
-square-back true x y z s t h f n m =
+pub square-back : (seam : Seam) (x y z s : ℕ) (t : Tile) → x < 2 ^ z → 4 ≤ 2 ^ z → s < 9 → List·Memᴰ t (nearOf seam x y z s) → squareOf seam x y (2 ^ z) t ≡ s
+square-back Wrapped x y z s t h f n m =
     let k = mem-test (inside (2 ^ z) y (s % 3)) m in
     let r = and-parts (leb 1 (y + s % 3)) (leb (y + s % 3) (2 ^ z)) (k .0) in
     let l = leb-true 1 (y + s % 3) (r .0) in
@@ -128,14 +130,14 @@ square-back true x y z s t h f n m =
     let b : t .y ≡ y + s % 3 - 1 = ap (λ (u : Tile). u .y) (k .1) in
     let c : s / 3 < 2 ^ z = omega arith in
     rw (a, wrapped-back x (s / 3) (2 ^ z) h c) (omega arith)
-square-back false x y z s t h f n m = let p = near-on-square x y z s t m in omega (arith, p .column, p .row)
+square-back Cut x y z s t h f n m = let p = near-on-square x y z s t m in omega (arith, p .column, p .row)
 
-pub square-self : (wrap : Bool) (x y z : ℕ) → x < 2 ^ z → 4 ≤ 2 ^ z → squareOf wrap x y (2 ^ z) (tileAt x y z) ≡ 4
-square-self true x y z h f =
+pub square-self : (seam : Seam) (x y z : ℕ) → x < 2 ^ z → 4 ≤ 2 ^ z → squareOf seam x y (2 ^ z) (tileAt x y z) ≡ 4
+square-self Wrapped x y z h f =
     let e : x + (1 + (2 ^ z - x)) ≡ 1 + 2 ^ z = omega arith in
     let l : 1 < 2 ^ z = omega arith in
     rw (e, add-mod-right 1 (2 ^ z), mod-eq-of-lt l) (omega arith)
-square-self false x y z h f = omega arith
+square-self Cut x y z h f = omega arith
 
 mem-holds : {s : ℕ} (l : List ℕ) → List·Memᴰ s l → holds s l ≡ true
 unfolding holds
@@ -161,24 +163,24 @@ distinct-once (a ∷ l) e = let p = and-parts (not (holds a l)) (distinct l) e i
     clash true e f = let z : _≡_ {A = ℕ} 0 1 = cc in omega arith
     clash false e f = let z : _≡_ {A = ℕ} 0 1 = cc in omega arith
 
-order-once : (wrap : Bool) → List·Nodup (orderOf wrap)
+order-once : (seam : Seam) → List·Nodup (orderOf seam)
 unfolding distinct holds
-order-once true = distinct-once (orderOf true) refl
-order-once false = distinct-once (orderOf false) refl
+order-once Wrapped = distinct-once (orderOf Wrapped) refl
+order-once Cut = distinct-once (orderOf Cut) refl
 
 one-at-most : (b : Bool) (t : Tile) → List·Nodup (cond b (t ∷ []) [])
 one-at-most true t = once-more List·Memᴰ·not-nil Pairwise·nil
 one-at-most false t = Pairwise·nil
 
-near-once : (wrap : Bool) (x y z s : ℕ) → List·Nodup (nearOf wrap x y z s)
-near-once true x y z s = one-at-most (inside (2 ^ z) y (s % 3)) (tileAt ((x + s / 3 + 2 ^ z - 1) % 2 ^ z) (y + s % 3 - 1) z)
-near-once false x y z s = one-at-most (inside (2 ^ z) x (s / 3) && inside (2 ^ z) y (s % 3)) (tileAt (x + s / 3 - 1) (y + s % 3 - 1) z)
+near-once : (seam : Seam) (x y z s : ℕ) → List·Nodup (nearOf seam x y z s)
+near-once Wrapped x y z s = one-at-most (inside (2 ^ z) y (s % 3)) (tileAt ((x + s / 3 + 2 ^ z - 1) % 2 ^ z) (y + s % 3 - 1) z)
+near-once Cut x y z s = one-at-most (inside (2 ^ z) x (s / 3) && inside (2 ^ z) y (s % 3)) (tileAt (x + s / 3 - 1) (y + s % 3 - 1) z)
 
 -- a tile tells the square that it is from, so no two squares have it
-pub around-once : (wrap : Bool) (x y z : ℕ) → x < 2 ^ z → 4 ≤ 2 ^ z → List·Nodup (gather (nearOf wrap x y z) (orderOf wrap))
-around-once wrap x y z h f =
-    once-gather (nearOf wrap x y z) (orderOf wrap) (order-once wrap) (near-once wrap x y z)
+pub around-once : (seam : Seam) (x y z : ℕ) → x < 2 ^ z → 4 ≤ 2 ^ z → List·Nodup (gather (nearOf seam x y z) (orderOf seam))
+around-once seam x y z h f =
+    once-gather (nearOf seam x y z) (orderOf seam) (order-once seam) (near-once seam x y z)
     (λ t q r k m i j. sym (square t q k i) ∙ square t r m j)
   where
-    square : (t : Tile) (s : ℕ) → List·Memᴰ s (orderOf wrap) → List·Memᴰ t (nearOf wrap x y z s) → squareOf wrap x y (2 ^ z) t ≡ s
-    square t s k m = square-back wrap x y z s t h f (around-square wrap k .0) m
+    square : (t : Tile) (s : ℕ) → List·Memᴰ s (orderOf seam) → List·Memᴰ t (nearOf seam x y z s) → squareOf seam x y (2 ^ z) t ≡ s
+    square t s k m = square-back seam x y z s t h f (around-square seam k .0) m

@@ -1,5 +1,5 @@
 -- The tiles around a tile, in the Rust's orders, as document 01 states them.
-use mathlib.Core.Bool.{Bool, true, false, cond, _&&_}
+use mathlib.Core.Bool.{Bool, cond, _&&_}
 use mathlib.Core.List.{List, [], _∷_, _++_}
 use Prim.Native.Nat.{ℕ, zero, suc, _+_, _-_, _/_, _%_, _^_}
 use lib.Dec.{leb}
@@ -10,6 +10,8 @@ use Rattle.errors.specs.Answer.{Lent, written}
 use Rattle.siblings.specs.Siblings.{siblingsOf}
 use Rattle.tile.specs.OnMap.{OnMap, tileAt, tileRefusal}
 use Rattle.tile.specs.declared.Tile.{Tile}
+use Rattle.neighbors.specs.declared.Seam.{Seam}
+use Rattle.neighbors.specs.declared.Seam.the-variants.{Cut, Wrapped}
 use Rattle.neighbors.specs.declared.Spot.{Spot}
 use Rattle.neighbors.specs.declared.Spot.the-variants.{At, Off}
 
@@ -35,27 +37,27 @@ near x y z s = cond (inside (2 ^ z) x (s / 3) && inside (2 ^ z) y (s % 3)) (tile
 abbrev pub nearWrapped : ℕ → ℕ → ℕ → ℕ → List Tile
 nearWrapped x y z s = cond (inside (2 ^ z) y (s % 3)) (tileAt ((x + s / 3 + 2 ^ z - 1) % 2 ^ z) (y + s % 3 - 1) z ∷ []) []
 
--- the two kinds: on a map that wraps in x, and on one that does not
-abbrev pub orderOf : Bool → List ℕ
-orderOf true = aroundWrapped
-orderOf false = around
+-- the two kinds: on a map that is wrapped at its seam, and on one that is cut there
+abbrev pub orderOf : Seam → List ℕ
+orderOf Wrapped = aroundWrapped
+orderOf Cut = around
 
-abbrev pub nearOf : Bool → ℕ → ℕ → ℕ → ℕ → List Tile
-nearOf true = nearWrapped
-nearOf false = near
+abbrev pub nearOf : Seam → ℕ → ℕ → ℕ → ℕ → List Tile
+nearOf Wrapped = nearWrapped
+nearOf Cut = near
 
 -- zoom 0 none, zoom 1 the siblings
-abbrev pub neighborsOf : Bool → ℕ → ℕ → ℕ → List Tile
-neighborsOf wrap x y zero = []
-neighborsOf wrap x y (suc zero) = siblingsOf x y 1
-neighborsOf wrap x y (suc (suc z)) = gather (nearOf wrap x y (suc (suc z))) (orderOf wrap)
+abbrev pub neighborsOf : Seam → ℕ → ℕ → ℕ → List Tile
+neighborsOf seam x y zero = []
+neighborsOf seam x y (suc zero) = siblingsOf x y 1
+neighborsOf seam x y (suc (suc z)) = gather (nearOf seam x y (suc (suc z))) (orderOf seam)
 
-abbrev pub neighborsWritten : Bool → ℕ → ℕ → ℕ → List ℕ → Lent ℕ
-neighborsWritten wrap x y z memory = written (tileRefusal x y z) (entriesOf (neighborsOf wrap x y z)) memory
+abbrev pub neighborsWritten : Seam → ℕ → ℕ → ℕ → List ℕ → Lent ℕ
+neighborsWritten seam x y z memory = written (tileRefusal x y z) (entriesOf (neighborsOf seam x y z)) memory
 
 -- the same from zoom 2 on
-abbrev pub aroundWritten : Bool → ℕ → ℕ → ℕ → List ℕ → Lent ℕ
-aroundWritten wrap x y z memory = written (tileRefusal x y z) (entriesOf (gather (nearOf wrap x y z) (orderOf wrap))) memory
+abbrev pub aroundWritten : Seam → ℕ → ℕ → ℕ → List ℕ → Lent ℕ
+aroundWritten seam x y z memory = written (tileRefusal x y z) (entriesOf (gather (nearOf seam x y z) (orderOf seam))) memory
 
 -- how the code holds the tile of a square
 abbrev pub spotTiles : ℕ → Spot → List Tile

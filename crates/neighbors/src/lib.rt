@@ -4,7 +4,6 @@ use errors::Count;
 use errors::Refusal;
 use errors::U32Answer;
 ghost use mathlib.Core.Path.{_≡_};
-ghost use mathlib.Core.Bool.{true, false};
 ghost use mathlib.Core.List.{_++_};
 ghost use Prim.Native.Nat.{_+_, _^_, _<_, _≤_};
 ghost use lib.ListN.{length, drop, getD};
@@ -14,11 +13,18 @@ ghost use Rattle.tile.specs.OnMap.{OnMap, tileRefusal};
 ghost use Rattle.children.specs.Children.{gather};
 ghost use Rattle.ids.specs.Entry.{entriesOf};
 ghost use Rattle.neighbors.specs.Neighbors.{orderOf, nearOf, spotTiles, neighborsWritten, aroundWritten, SpotOnMap, pasted};
+ghost use Rattle.neighbors.specs.declared.Seam.the-variants.{Cut, Wrapped};
 
 // The squares of the block of nine around a tile, numbered column by column from 0; the tile itself is square 4.
 const AROUND: [u8; 8] = [7, 5, 8, 1, 3, 0, 6, 2];
 
 const AROUND_WRAPPED: [u8; 8] = [0, 1, 2, 3, 5, 6, 7, 8];
+
+// The seam of the map is the antimeridian: the map is cut there, or wrapped, so that the last column stands beside the first.
+pub enum Seam {
+    Cut,
+    Wrapped,
+}
 
 // What stands at such a square: a tile of the map, or none.
 pub enum Spot {
@@ -28,25 +34,24 @@ pub enum Spot {
 
 // The tiles of the map around a tile, in the Rust's order: none at zoom 0, the siblings at zoom 1.
 pub fn neighbors(x: u32, y: u32, z: u8, out: &mut [u64]) -> Count
-    ensures { λ r. ⌜ left r (now (out .exit)) ≡ neighborsWritten false x y z (now (out .entry)) ⌝ }
+    ensures { λ r. ⌜ left r (now (out .exit)) ≡ neighborsWritten Cut x y z (now (out .entry)) ⌝ }
 {
-    near(false, x, y, z, out)
+    near(Seam::Cut, x, y, z, out)
 }
 
-// The map wraps in x: the last column stands beside the first.
 pub fn neighbors_wrap_x(x: u32, y: u32, z: u8, out: &mut [u64]) -> Count
-    ensures { λ r. ⌜ left r (now (out .exit)) ≡ neighborsWritten true x y z (now (out .entry)) ⌝ }
+    ensures { λ r. ⌜ left r (now (out .exit)) ≡ neighborsWritten Wrapped x y z (now (out .entry)) ⌝ }
 {
-    near(true, x, y, z, out)
+    near(Seam::Wrapped, x, y, z, out)
 }
 
-fn near(wrap: bool, x: u32, y: u32, z: u8, out: &mut [u64]) -> Count
-    ensures { λ r. ⌜ left r (now (out .exit)) ≡ neighborsWritten wrap x y z (now (out .entry)) ⌝ }
+fn near(seam: Seam, x: u32, y: u32, z: u8, out: &mut [u64]) -> Count
+    ensures { λ r. ⌜ left r (now (out .exit)) ≡ neighborsWritten seam x y z (now (out .entry)) ⌝ }
 {
     match z {
         0 => none(x, y, z),
         1 => siblings::siblings(x, y, z, out),
-        _ => around(wrap, x, y, z, out),
+        _ => around(seam, x, y, z, out),
     }
 }
 
@@ -60,32 +65,32 @@ fn none(x: u32, y: u32, z: u8) -> Count
     }
 }
 
-// The tiles of the block of nine that are on the map, on one that wraps in x or not.
-fn around(wrap: bool, x: u32, y: u32, z: u8, out: &mut [u64]) -> Count
-    ensures { λ r. ⌜ left r (now (out .exit)) ≡ aroundWritten wrap x y z (now (out .entry)) ⌝ }
+// The tiles of the block of nine that are on the map.
+fn around(seam: Seam, x: u32, y: u32, z: u8, out: &mut [u64]) -> Count
+    ensures { λ r. ⌜ left r (now (out .exit)) ≡ aroundWritten seam x y z (now (out .entry)) ⌝ }
 {
     match tile::side(x, y, z) {
         U32Answer::Number(end) => {
-            let n = count(wrap, x, y, z, end);
+            let n = count(seam, x, y, z, end);
             if out.len() < n {
                 return Count::Refused(Refusal::Memory);
             }
-            fill(wrap, x, y, z, end, out);
+            fill(seam, x, y, z, end, out);
             Count::Counted(n)
         }
         U32Answer::Refused(why) => Count::Refused(why),
     }
 }
 
-fn count(wrap: bool, x: u32, y: u32, z: u8, end: u32) -> usize
+fn count(seam: Seam, x: u32, y: u32, z: u8, end: u32) -> usize
     requires { ⌜ OnMap x y z ⌝ }
     requires { ⌜ end ≡ 2 ^ z ⌝ }
-    ensures { λ r. ⌜ r ≡ length (gather (nearOf wrap x y z) (orderOf wrap)) ⌝ }
+    ensures { λ r. ⌜ r ≡ length (gather (nearOf seam x y z) (orderOf seam)) ⌝ }
 {
     let mut n = 0;
     let mut k = 0;
     while k < 8 {
-        n += tiles(z, spot_at(wrap, x, y, z, end, k));
+        n += tiles(z, spot_at(seam, x, y, z, end, k));
         k += 1;
     }
     n
@@ -101,17 +106,17 @@ fn tiles(z: u8, spot: Spot) -> usize
     }
 }
 
-fn fill(wrap: bool, x: u32, y: u32, z: u8, end: u32, out: &mut [u64])
+fn fill(seam: Seam, x: u32, y: u32, z: u8, end: u32, out: &mut [u64])
     requires { ⌜ OnMap x y z ⌝ }
     requires { ⌜ end ≡ 2 ^ z ⌝ }
-    requires { ⌜ length (gather (nearOf wrap x y z) (orderOf wrap)) ≤ length (now out) ⌝ }
-    ensures { λ _. ⌜ now (out .exit) ≡ entriesOf (gather (nearOf wrap x y z) (orderOf wrap))
-        ++ drop (length (gather (nearOf wrap x y z) (orderOf wrap))) (now (out .entry)) ⌝ }
+    requires { ⌜ length (gather (nearOf seam x y z) (orderOf seam)) ≤ length (now out) ⌝ }
+    ensures { λ _. ⌜ now (out .exit) ≡ entriesOf (gather (nearOf seam x y z) (orderOf seam))
+        ++ drop (length (gather (nearOf seam x y z) (orderOf seam))) (now (out .entry)) ⌝ }
 {
     let mut n = 0;
     let mut k = 0;
     while k < 8 {
-        n = put(out, n, z, spot_at(wrap, x, y, z, end, k));
+        n = put(out, n, z, spot_at(seam, x, y, z, end, k));
         k += 1;
     }
 }
@@ -133,13 +138,13 @@ fn put(out: &mut [u64], n: usize, z: u8, spot: Spot) -> usize
 }
 
 // What stands at the k-th square that is gone through.
-fn spot_at(wrap: bool, x: u32, y: u32, z: u8, end: u32, k: usize) -> Spot
+fn spot_at(seam: Seam, x: u32, y: u32, z: u8, end: u32, k: usize) -> Spot
     requires { ⌜ OnMap x y z ⌝ }
     requires { ⌜ end ≡ 2 ^ z ⌝ }
     requires { ⌜ k < 8 ⌝ }
-    ensures { λ r. ⌜ spotTiles z r ≡ nearOf wrap x y z (getD (orderOf wrap) k 0) ⌝ }
+    ensures { λ r. ⌜ spotTiles z r ≡ nearOf seam x y z (getD (orderOf seam) k 0) ⌝ }
 {
-    let s = square(wrap, k);
+    let s = square(seam, k);
     let across = x + s / 3;
     let along = y + s % 3;
     if along < 1 {
@@ -148,7 +153,7 @@ fn spot_at(wrap: bool, x: u32, y: u32, z: u8, end: u32, k: usize) -> Spot
     if end < along {
         return Spot::Off;
     }
-    if wrap {
+    if let Seam::Wrapped = seam {
         return Spot::At {
             x: (across + end - 1) % end,
             y: along - 1,
@@ -166,13 +171,12 @@ fn spot_at(wrap: bool, x: u32, y: u32, z: u8, end: u32, k: usize) -> Spot
     }
 }
 
-fn square(wrap: bool, k: usize) -> u32
+fn square(seam: Seam, k: usize) -> u32
     requires { ⌜ k < 8 ⌝ }
-    ensures { λ r. ⌜ r ≡ getD (orderOf wrap) k 0 ⌝ }
+    ensures { λ r. ⌜ r ≡ getD (orderOf seam) k 0 ⌝ }
 {
-    if wrap {
-        AROUND_WRAPPED[k] as u32
-    } else {
-        AROUND[k] as u32
+    match seam {
+        Seam::Cut => AROUND[k] as u32,
+        Seam::Wrapped => AROUND_WRAPPED[k] as u32,
     }
 }

@@ -1,7 +1,6 @@
 // The tiles around a tile, and the numbers that stand for tiles: the calls of fns.rs.
 ghost use mathlib.Core.Path.{_≡_};
 ghost use Prim.Native.Nat.{_+_};
-ghost use mathlib.Core.Bool.{true, false};
 ghost use Rattle.c_fns.specs.Limits.{limitsAt};
 ghost use Rattle.c_give.specs.Exported.{answered, asByte, answeredIn, never};
 ghost use Rattle.c_ids.specs.OffsetZoom.{offsetZoomAt};
@@ -12,6 +11,7 @@ ghost use Rattle.ids.specs.Entry.{entryOf, entryTileOf};
 ghost use Rattle.ids.specs.Id.{fromIdOf, toIdOf};
 ghost use Rattle.ids.specs.Rmid.{fromRmidOf, offsetZoomOf, toRmidOf};
 ghost use Rattle.neighbors.specs.Neighbors.{neighborsWritten};
+ghost use Rattle.neighbors.specs.declared.Seam.the-variants.{Cut, Wrapped};
 ghost use Rattle.siblings.specs.Siblings.{siblingsWritten};
 ghost use Rattle.tile.specs.OnMap.{tileAt, tileRefusal};
 
@@ -129,7 +129,7 @@ pub extern "C" fn nori_siblings(x: u32, y: u32, z: u8, out: &mut [u64], count: &
 // Refused: 1, 2, 12.
 #[no_mangle]
 pub extern "C" fn nori_neighbors(x: u32, y: u32, z: u8, out: &mut [u64], count: &mut u64) -> u8
-    ensures { λ r. ⌜ answeredIn r (now (count .exit)) (now (out .exit)) ≡ neighborsWritten false x y z (now (out .entry)) ⌝ }
+    ensures { λ r. ⌜ answeredIn r (now (count .exit)) (now (out .exit)) ≡ neighborsWritten Cut x y z (now (out .entry)) ⌝ }
 {
     c_fns::neighbors(x, y, z, out, count)
 }
@@ -144,7 +144,7 @@ pub extern "C" fn nori_neighbors_wrap_x(
     out: &mut [u64],
     count: &mut u64,
 ) -> u8
-    ensures { λ r. ⌜ answeredIn r (now (count .exit)) (now (out .exit)) ≡ neighborsWritten true x y z (now (out .entry)) ⌝ }
+    ensures { λ r. ⌜ answeredIn r (now (count .exit)) (now (out .exit)) ≡ neighborsWritten Wrapped x y z (now (out .entry)) ⌝ }
 {
     c_fns::neighbors_wrap_x(x, y, z, out, count)
 }

@@ -1,7 +1,6 @@
 -- Document 01's plates as one table, `table`, under one statement, `Plates`; the theorem is `plates`, and nothing is assumed. A row has the paper's
 -- words, what the definition in a call's promise gives, and what the paper says. The lines that the paper marks † are all here, and three of its others.
 use mathlib.Core.Path.{_≡_, refl}
-use mathlib.Core.Bool.{false}
 use mathlib.Core.List.{[], _∷_}
 use Prim.Native.Nat.{_+_, _-_, _^_}
 use Rattle.children.specs.Children.{gather}
@@ -13,6 +12,7 @@ use Rattle.ids.specs.Id.{idOf, toIdOf}
 use Rattle.ids.specs.Rmid.{levelStart, toRmidOf}
 use Rattle.merge.specs.Merge.{simplifyV1Of, simplifyOf}
 use Rattle.neighbors.specs.Neighbors.{neighborsWritten}
+use Rattle.neighbors.specs.declared.Seam.the-variants.{Cut}
 use Rattle.siblings.specs.Siblings.{siblingsWritten}
 use Rattle.plate_table.specs.Kept.{answers, both-accepted, none-accepted, v1-keeps-both, simplify-keeps-one, empty-settles}
 use Rattle.plate_table.specs.Rows.{Row, row, key, entriesOfKeys, accepted, refused, keeps, ranges}
@@ -58,7 +58,7 @@ table parent-3 = row "† parent of (3,5,3), n = 3: refusal 3" (parentOf 3 5 3 (
 table siblings =
     row "† siblings of (3,5,3): (2,5), (3,4), (2,4)" (siblingsWritten 3 5 3) (written 0 (entriesOf (tileAt 2 5 3 ∷ tileAt 3 4 3 ∷ tileAt 2 4 3 ∷ [])))
 table neighbours =
-    row "† neighbours of (3,0,2): (3,1), (2,0), (2,1)" (neighborsWritten false 3 0 2)
+    row "† neighbours of (3,0,2): (3,1), (2,0), (2,1)" (neighborsWritten Cut 3 0 2)
     (written 0 (entriesOf (tileAt 3 1 2 ∷ tileAt 2 0 2 ∷ tileAt 2 1 2 ∷ [])))
 table kept-by-v1 =
     row "† keys 0, 00 at m = 1: `simplify_v1` keeps both" (simplifyV1Of (entriesOfKeys ("0" ∷ "00" ∷ [])) (unwrapOr (Some 1) 0))

@@ -1,6 +1,5 @@
 -- `neighbors::around` meets its contract: the tiles are counted before the first is written.
 use mathlib.Core.Path.{_≡_, sym, _∙_}
-use mathlib.Core.Bool.{Bool}
 use mathlib.Core.List.{List}
 use Prim.Native.Nat.{ℕ, _^_, _≤_}
 use lib.ListN.{length, length-map}
@@ -11,12 +10,13 @@ use Rattle.errors.specs.Memory.{written-refused, written-short, written-done}
 use Rattle.tile.specs.OnMap.{OnMap, on-map-accepted, side-found, side-refused}
 use Rattle.tile.specs.declared.Tile.{Tile}
 use Rattle.neighbors.specs.Neighbors.{nearOf, orderOf}
+use Rattle.neighbors.specs.declared.Seam.{Seam}
 use Rattle.neighbors.proofs.around.Statement.{statement}
 use Rattle.neighbors.proofs.around.Tie as tie
 
 -- the entries that are to be written
-abbrev all : Bool → ℕ → ℕ → ℕ → List ℕ
-all wrap x y z = entriesOf (gather (nearOf wrap x y z) (orderOf wrap))
+abbrev all : Seam → ℕ → ℕ → ℕ → List ℕ
+all seam x y z = entriesOf (gather (nearOf seam x y z) (orderOf seam))
 
 as-many : (tiles : List Tile) → length (entriesOf tiles) ≡ length tiles
 as-many tiles = length-map tiles _
@@ -38,7 +38,7 @@ returns : tie.Need-returns
 returns c =
     let a = c .before .before .before .before .before .before .before .args in
     let m = on-map-accepted (known (c .before .before) .0) in
-    written-short (all (a .wrap) (a .x) (a .y) (a .z)) _ m (rw (length-map, ← c .before .count .ensures) (c .if1 .taken))
+    written-short (all (a .seam) (a .x) (a .y) (a .z)) _ m (rw (length-map, ← c .before .count .ensures) (c .if1 .taken))
 
 fill-requires : tie.Need-fill-requires
 fill-requires c κs = (known (c .before .before .before) .0, (known (c .before .before .before) .1, rw (← c .before .before .count .ensures) (c .before .if1 .left)))
@@ -52,9 +52,9 @@ same-length c = search needs
 returns-2 : tie.Need-returns-2
 returns-2 c =
     let a = c .before .before .before .before .before .before .before .before .before .before .before .args in
-    let items = all (a .wrap) (a .x) (a .y) (a .z) in
+    let items = all (a .seam) (a .x) (a .y) (a .z) in
     let e = c .before .before .before .before .before .count .ensures in
-    let l = as-many (gather (nearOf (a .wrap) (a .x) (a .y) (a .z)) (orderOf (a .wrap))) in
+    let l = as-many (gather (nearOf (a .seam) (a .x) (a .y) (a .z)) (orderOf (a .seam))) in
     let room : length items ≤ length (a .out .now) = rw (l, ← e) (c .before .before .before .before .if1 .left) in
     let m = on-map-accepted (known (c .before .before .before .before .before .before) .0) in
     written-done items (a .out .now) (c .before .before .fill .last .1 .1 .1 .1 .1 .0) m room (e ∙ sym l) (rw l (c .before .before .fill .ensures))
@@ -63,7 +63,7 @@ returns-3 : tie.Need-returns-3
 returns-3 c =
     let a = c .before .before .before .before .before .args in
     let why = c .before .why .given in
-    written-refused (why .0 .0) (all (a .wrap) (a .x) (a .y) (a .z)) _ (side-refused _ _ _ (c .before .before .before .side .ensures) (why .1))
+    written-refused (why .0 .0) (all (a .seam) (a .x) (a .y) (a .z)) _ (side-refused _ _ _ (c .before .before .before .side .ensures) (why .1))
 
 pub around-spec : {M : Type 1} → statement M
 around-spec =

@@ -12,10 +12,10 @@ use Rattle.neighbors.proofs.count.Statement.{statement}
 use Rattle.neighbors.proofs.count.Tie as tie
 
 abbrev Inv-loop : tie.InvT-loop
-Inv-loop wrap x y z end n₀ k₀ n k = (k ≤ 8) × (n ≡ length (found wrap x y z k))
+Inv-loop seam x y z end n₀ k₀ n k = (k ≤ 8) × (n ≡ length (found seam x y z k))
 
 abbrev μ-loop : tie.MeasureT-loop
-μ-loop wrap x y z end n₀ k₀ n k = 8 - k
+μ-loop seam x y z end n₀ k₀ n k = 8 - k
 
 loop-holds : tie.Need-loop-holds Inv-loop μ-loop
 unfolding gather
@@ -31,8 +31,8 @@ add-n : tie.Need-add-n Inv-loop μ-loop
 add-n c =
     let a = c .before .before .before .before .args in
     let l = c .before .before .before .loop in
-    let m = count-more (a .wrap) (a .x) (a .y) (a .z) (l .k) (l .n) (c .before .spot-at .result) (c .before .before .loop-test .taken) (l .inv .1) (c .before .spot-at .ensures) in
-    omega (arith, c .tiles .ensures, m, found-within (a .wrap) (a .x) (a .y) (a .z) (l .k + 1), found-most (a .wrap) (a .x) (a .y) (a .z))
+    let m = count-more (a .seam) (a .x) (a .y) (a .z) (l .k) (l .n) (c .before .spot-at .result) (c .before .before .loop-test .taken) (l .inv .1) (c .before .spot-at .ensures) in
+    omega (arith, c .tiles .ensures, m, found-within (a .seam) (a .x) (a .y) (a .z) (l .k + 1), found-most (a .seam) (a .x) (a .y) (a .z))
 
 add-k : tie.Need-add-k Inv-loop μ-loop
 add-k c = search needs
@@ -44,14 +44,14 @@ loop-again : tie.Need-loop-again Inv-loop μ-loop
 loop-again c =
     let a = c .before .before .before .before .args in
     let l = c .before .before .before .loop in
-    let m = count-more (a .wrap) (a .x) (a .y) (a .z) (l .k) (l .n) (c .before .spot-at .result) (c .before .before .loop-test .taken) (l .inv .1) (c .before .spot-at .ensures) in
+    let m = count-more (a .seam) (a .x) (a .y) (a .z) (l .k) (l .n) (c .before .spot-at .result) (c .before .before .loop-test .taken) (l .inv .1) (c .before .spot-at .ensures) in
     (omega arith, ap (λ (n : ℕ). l .n + n) (c .tiles .ensures) ∙ m)
 
 returns : tie.Need-returns Inv-loop μ-loop
 returns c =
     let a = c .before .before .args in
     let e : c .before .loop .k ≡ 8 = omega arith in
-    c .before .loop .inv .1 ∙ rw e (ap (λ (l : List Tile). length l) (found-all (a .wrap) (a .x) (a .y) (a .z)))
+    c .before .loop .inv .1 ∙ rw e (ap (λ (l : List Tile). length l) (found-all (a .seam) (a .x) (a .y) (a .z)))
 
 pub count-spec : {M : Type 1} → statement M
 count-spec =

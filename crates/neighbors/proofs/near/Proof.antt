@@ -35,7 +35,7 @@ same-length-2 c = search needs
 returns-3 : tie.Need-returns-3
 returns-3 c =
     let a = c .before .before .before .before .before .before .args in
-    rw (neighbors-deep (a .wrap) (a .x) (a .y) (a .z) (c .before .before .before .before .match .rest .0 .1) (c .before .before .before .before .match .rest .1)) (c .before .before .around .ensures)
+    rw (neighbors-deep (a .seam) (a .x) (a .y) (a .z) (c .before .before .before .before .match .rest .0 .1) (c .before .before .before .before .match .rest .1)) (c .before .before .around .ensures)
 
 pub near-spec : {M : Type 1} → statement M
 near-spec =
