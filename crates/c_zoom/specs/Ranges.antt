@@ -4,7 +4,7 @@ use mathlib.Core.List.{List}
 use Prim.Native.Nat.{ℕ}
 use Rattle.c_give.specs.Exported.{answered}
 use Rattle.errors.specs.Answer.{Answer}
-use Rattle.zoom.specs.Zooms.{LentTwo}
+use Rattle.zoom_ranges.specs.Ranges.{LentTwo}
 
 abbrev pub givenTwo : ℕ → ℕ → List ℕ → List ℕ → LentTwo
 givenTwo number count lows highs = record { number = number; value = count; lows = lows; highs = highs }

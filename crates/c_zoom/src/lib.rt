@@ -1,15 +1,16 @@
-// What the exported calls of zoom.rs do: each asks the crate `zoom` and hands the answer on in numbers.
-use zoom::ZoomRange;
+// What the exported calls of zoom.rs do: each asks the crate `zoom` or `zoom_ranges` and hands the answer on in numbers.
 use zoom::ZoomSet;
 use zoom::ZoomSetAnswer;
+use zoom_ranges::ZoomRange;
 ghost use mathlib.Core.Path.{_≡_};
 ghost use Prim.Native.Nat.{suc, _-_, _^_};
 ghost use lib.Bits.{bitAnd};
 ghost use Rattle.c_give.specs.Exported.{answered, answeredIn, never};
 ghost use Rattle.c_zoom.specs.Ranges.{givenTwo};
 ghost use Rattle.errors.specs.Answer.{written};
-ghost use Rattle.zoom.specs.Zooms.{andZoom, lastZoom, maxXY, rangeOf, rangeSet, rangesOf, zoomBit, zoomBitRev, zoomSetCase, zoomsOf};
-ghost use Rattle.zoom.specs.Zooms.{zoomsOfRev, zvecSet, zvecSetRev};
+ghost use Rattle.zoom.specs.Zooms.{andZoom, maxXY, rangeSet, zoomBit, zoomBitRev, zoomSetCase, zoomsOf, zoomsOfRev, zvecSet, zvecSetRev};
+ghost use Rattle.zoom_bits.specs.Bits.{lastZoom};
+ghost use Rattle.zoom_ranges.specs.Ranges.{rangeOf, rangesOf};
 
 pub fn zoom_max_xy(zoom: u8, max: &mut u32) -> u8
     ensures { λ r. ⌜ answered r (now (max .exit)) ≡ maxXY zoom ⌝ }
@@ -46,7 +47,7 @@ pub fn zvec2zset_rev(zvec: &[u8], zset: &mut u32) -> u8
 pub fn zoom_ranges(zset: u32, lows: &mut [u8], highs: &mut [u8], count: &mut u64) -> u8
     ensures { λ r. ⌜ givenTwo r (now (count .exit)) (now (lows .exit)) (now (highs .exit)) ≡ rangesOf zset (now (lows .entry)) (now (highs .entry)) ⌝ }
 {
-    let answer = zoom::zoom_ranges(zset, lows, highs);
+    let answer = zoom_ranges::zoom_ranges(zset, lows, highs);
     c_give::count(answer, count)
 }
 

@@ -6,7 +6,9 @@ ghost use lib.Bits.{bitAnd};
 ghost use Rattle.c_give.specs.Exported.{answered, answeredIn, never};
 ghost use Rattle.c_zoom.specs.Ranges.{givenTwo};
 ghost use Rattle.errors.specs.Answer.{written};
-ghost use Rattle.zoom.specs.Zooms.{andZoom, lastZoom, maxXY, rangeOf, rangeSet, rangesOf, zoomBit, zoomBitRev, zoomsOf, zoomsOfRev, zvecSet, zvecSetRev};
+ghost use Rattle.zoom.specs.Zooms.{andZoom, maxXY, rangeSet, zoomBit, zoomBitRev, zoomsOf, zoomsOfRev, zvecSet, zvecSetRev};
+ghost use Rattle.zoom_bits.specs.Bits.{lastZoom};
+ghost use Rattle.zoom_ranges.specs.Ranges.{rangeOf, rangesOf};
 
 // The last column, and the last row, of a zoom: 2^zoom - 1.
 // Refused: 1.

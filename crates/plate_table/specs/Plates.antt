@@ -21,8 +21,9 @@ use Rattle.tile.specs.Option.{unwrapOr}
 use Rattle.tile.specs.OnMap.{tileAt, noTile, tileRefusal}
 use Rattle.tile.specs.declared.OptionU8.the-variants.{None, Some}
 use Rattle.tile_zbox.specs.Box.{boxAt, boxRefusal, wrongEdges, boxLength, lengthOf}
-use Rattle.zoom.specs.Bits.{hasBit, those, setOf}
-use Rattle.zoom.specs.Zooms.{listed, anyDeeper, zvecSet, zoomsOf, firstRun, lastRun, inRun, runStarts, runEnds, rangesOf}
+use Rattle.zoom.specs.Zooms.{zvecSet, zoomsOf}
+use Rattle.zoom_bits.specs.Bits.{hasBit, those, setOf, listed, anyDeeper}
+use Rattle.zoom_ranges.specs.Ranges.{firstRun, lastRun, inRun, runStarts, runEnds, rangesOf}
 
 -- the plates, in the paper's order
 pub data Plate : Type 0 where

@@ -9,7 +9,7 @@ use Rattle.errors.specs.Answer.{Answer, Lent, short, _when_, _else_}
 use Rattle.ids.specs.Entry.{entriesOf}
 use Rattle.quadkey.specs.Key.{keyTile}
 use Rattle.tile_list.specs.List.{listAnswer}
-use Rattle.zoom.specs.Zooms.{LentTwo, lentTwo}
+use Rattle.zoom_ranges.specs.Ranges.{LentTwo, lentTwo}
 
 -- the plate in the paper's words, what the definition that the call promises gives, and what the paper says
 pub record Row : Type 1 where

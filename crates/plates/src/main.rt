@@ -97,7 +97,7 @@ fn zooms() {
     say(b"\nzooms 0, 1, 2, 4: ranges from");
     let mut lows = [0u8; 16];
     let mut highs = [0u8; 16];
-    let k = written(zoom::zoom_ranges(23, &mut lows, &mut highs));
+    let k = written(zoom_ranges::zoom_ranges(23, &mut lows, &mut highs));
     say_bytes(&lows, k);
     say(b" to");
     say_bytes(&highs, k);

@@ -75,7 +75,7 @@ fn to_zooms(set: ZoomSet, want: &[u64]) -> bool {
 fn zoom_ranges(zset: u32, want: &[u64]) -> bool {
     let mut lows = [BLANK; 64];
     let mut highs = [BLANK; 64];
-    let answer = zoom::zoom_ranges(zset, &mut lows, &mut highs);
+    let answer = zoom_ranges::zoom_ranges(zset, &mut lows, &mut highs);
     same_ranges(answer, &lows, &highs, want)
 }
 

@@ -1,10 +1,6 @@
 pub mod Theorems
 pub mod AsRust
-pub mod Bits
-pub mod Cover
-pub mod Laws
 pub mod Listing
 pub mod Lists
-pub mod Runs
 pub mod Rust
 pub mod Zooms

@@ -1,19 +1,18 @@
--- What the list of the numbers that pass a test holds, and that it rises; sets and lists of zooms there and back.
+-- What the list of the numbers that pass a test holds; sets and lists of zooms there and back.
 use mathlib.Core.Path.{_≡_, refl, sym, ap, _∙_}
 use mathlib.Core.Bool.{Bool, true, false, cond, _&&_, _||_, and-true, and-false, or-false}
-use mathlib.Core.List.{List, [], _∷_, _++_}
+use mathlib.Core.List.{List, [], _∷_}
 use Prim.Native.Nat.{ℕ, zero, suc, _-_, _^_, _≤_, _<_}
 use native.Mathlib.Nat.{mod-eq-of-lt}
 use native.Mathlib.Omega.{arith}
 use native.Mathlib.Decide.{decLt}
 use lib.Dec.{eqb, ltb}
-use lib.ListN.{length, getD, length-append, List·getD-append}
-use lib.Seq.{getD-at}
 use borrow.Author.Tests.{lt-ltb, le-ltb, eq-eqb, ne-eqb}
-use Rattle.zoom.specs.Bits.{hasBit, those}
-use Rattle.zoom.specs.Laws.{set-below, set-of-bits, set-same, those-with, those-without, bit-of-set, bit-past}
-use Rattle.zoom.specs.Lists.{listed-append, those-of-set, zooms-straight, listed-shallow}
-use Rattle.zoom.specs.Zooms.{lastZoom, turnBit, downFrom, zoomsOf, zoomsOfRev, listed, anyDeeper, setOfZooms, setOfZoomsRev}
+use Rattle.zoom_bits.specs.Bits.{hasBit, those, lastZoom, turnBit, downFrom, listed, anyDeeper, setOfZooms}
+use Rattle.zoom_bits.specs.Laws.{set-below, set-of-bits, set-same, bit-of-set, bit-past, those-of-set}
+use Rattle.zoom_bits.specs.Listed.{listed-append}
+use Rattle.zoom.specs.Lists.{zooms-straight, listed-shallow}
+use Rattle.zoom.specs.Zooms.{zoomsOf, zoomsOfRev, setOfZoomsRev}
 
 listed-one : (b : Bool) (n z : ℕ) → listed (cond b (n ∷ []) []) z ≡ b && eqb z n
 unfolding listed
@@ -32,49 +31,6 @@ listed-those has (suc n) z =
     place (yes l) g = rw (lt-ltb z n l, lt-ltb z (suc n) (omega arith), ne-eqb z n (λ e. omega arith), and-false (has n)) (or-false (has z))
     place (no l) (yes g) = rw (le-ltb z n (omega arith), le-ltb z (suc n) (omega arith), ne-eqb z n (λ e. omega arith)) (and-false (has n))
     place (no l) (no g) = let e : z ≡ n = omega arith in rw (e, le-ltb n n (omega arith), lt-ltb n (suc n) (omega arith), eq-eqb n n refl) (and-true (has n))
-
--- a list with one number more at its end
-module _ (l : List ℕ) (n : ℕ) where
-  at-end : (k : ℕ) → k < length (l ++ (n ∷ [])) → (k < length l → ⊥) → getD (l ++ (n ∷ [])) k 0 ≡ n
-  at-end k h g = getD-at l n [] 0 k (omega (arith, length-append l (n ∷ [])))
-
-  pub snoc-below : ((k : ℕ) → k < length l → getD l k 0 < n) → (k : ℕ) → k < length (l ++ (n ∷ [])) → getD (l ++ (n ∷ [])) k 0 < suc n
-  snoc-below below k h = pick (decLt k (length l))
-    where
-      pick : Dec (k < length l) → getD (l ++ (n ∷ [])) k 0 < suc n
-      pick (yes g) = rw (List·getD-append l (n ∷ []) 0 k g) (omega (arith, below k g))
-      pick (no g) = omega (arith, at-end k h g)
-
-  pub snoc-rising : ((k : ℕ) → k < length l → getD l k 0 < n) → ((j k : ℕ) → j < k → k < length l → getD l j 0 < getD l k 0)
-      → (j k : ℕ) → j < k → k < length (l ++ (n ∷ [])) → getD (l ++ (n ∷ [])) j 0 < getD (l ++ (n ∷ [])) k 0
-  snoc-rising below rising j k i h = pick (decLt k (length l))
-    where
-      pick : Dec (k < length l) → getD (l ++ (n ∷ [])) j 0 < getD (l ++ (n ∷ [])) k 0
-      pick (yes g) = rw (List·getD-append l (n ∷ []) 0 k g, List·getD-append l (n ∷ []) 0 j (omega arith)) (rising j k i g)
-      pick (no g) =
-          let m = length-append l (n ∷ []) in
-          rw (at-end k h g, List·getD-append l (n ∷ []) 0 j (omega arith)) (below j (omega arith))
-
-pub those-below : (has : ℕ → Bool) (n k : ℕ) → k < length (those has n) → getD (those has n) k 0 < n
-unfolding those
-those-below has zero k h = absurd (omega arith)
-those-below has (suc n) k h = pick (has n) refl (those-below has n) h
-  where
-    pick : (b : Bool) → has n ≡ b → ((k : ℕ) → k < length (those has n) → getD (those has n) k 0 < n) → k < length (those has (suc n))
-        → getD (those has (suc n)) k 0 < suc n
-    pick true e below h = rw (those-with has n e) (snoc-below (those has n) n below k (rw (those-with has n e) at h))
-    pick false e below h = rw (those-without has n e) (omega (arith, below k (rw (those-without has n e) at h)))
-
--- the list rises strictly
-pub those-rising : (has : ℕ → Bool) (n j k : ℕ) → j < k → k < length (those has n) → getD (those has n) j 0 < getD (those has n) k 0
-unfolding those
-those-rising has zero j k i h = absurd (omega arith)
-those-rising has (suc n) j k i h = pick (has n) refl (those-rising has n) h
-  where
-    pick : (b : Bool) → has n ≡ b → ((j k : ℕ) → j < k → k < length (those has n) → getD (those has n) j 0 < getD (those has n) k 0)
-        → k < length (those has (suc n)) → getD (those has (suc n)) j 0 < getD (those has (suc n)) k 0
-    pick true e rising h = rw (those-with has n e) (snoc-rising (those has n) n (those-below has n) rising j k i (rw (those-with has n e) at h))
-    pick false e rising h = rw (those-without has n e) (rising j k i (rw (those-without has n e) at h))
 
 -- ---- there and back
 

@@ -1,25 +1,15 @@
 -- What the Rust computes, on values: its loops and bit operations in its own order and in 32 bits. Theorems says that each is document 01's
 -- reading.
-use mathlib.Core.Bool.{Bool, true, false, cond, not}
+use mathlib.Core.Bool.{Bool, cond}
 use mathlib.Core.List.{List, [], _∷_, _++_}
 use Prim.Native.Nat.{ℕ, zero, suc, _-_, _/_, _%_, _^_}
-use lib.Dec.{eqb}
 use lib.Bits.{bitAnd, bitOr}
-use Rattle.zoom.specs.Bits.{hasBit, setOf}
-use Rattle.zoom.specs.Zooms.{rangeOf}
-use Rattle.zoom.specs.declared.ZoomRange.{ZoomRange}
+use Rattle.zoom_bits.specs.Bits.{hasBit, setOf}
+use Rattle.zoom_bits.specs.Masks.{mask, masked}
 
 -- 2_u32.pow(zoom) - 1
 abbrev pub zoomMaxXY : ℕ → ℕ
 zoomMaxXY zoom = 2 ^ zoom % 2 ^ 32 - 1
-
--- 1 << i
-abbrev pub mask : ℕ → ℕ
-mask i = 2 ^ i % 2 ^ 32
-
--- zset & (1 << i) != 0
-abbrev pub masked : ℕ → ℕ → Bool
-masked zset i = not (eqb (bitAnd zset (mask i)) 0)
 
 -- 0..n
 unfoldable pub range : ℕ → List ℕ
@@ -60,40 +50,3 @@ bitandZoom zset zoom = bitAnd zset (mask (31 - zoom))
 -- ZoomSet::all
 abbrev pub all : ℕ
 all = 2147483647
-
--- ZoomRange::from_max, from_min and default, whose MAX_ZOOM is 30
-abbrev pub fromMax : ℕ → ZoomRange
-fromMax max = rangeOf 0 max
-
-abbrev pub fromMin : ℕ → ZoomRange
-fromMin min = rangeOf min 30
-
-abbrev pub default : ZoomRange
-default = rangeOf 0 30
-
--- the variables of the loop of zoom_ranges
-pub record Walk : Type 0 where
-  pub min : ℕ
-  pub max : ℕ
-  pub ranges : List ZoomRange
-
-abbrev pub pushed : Walk → List ZoomRange
-pushed w = w .ranges ++ (rangeOf (w .min) (w .max) ∷ [])
-
--- one turn: a bit opens a run or lengthens it, a gap ends it, and min = 0 says that none is open
-abbrev pub turn : Bool → ℕ → Walk → Walk
-turn true i w = record { min = cond (eqb (w .min) 0) i (w .min); max = i; ranges = w .ranges }
-turn false i w = cond (eqb (w .min) 0) w (record { min = 0; max = 0; ranges = pushed w })
-
--- the variables before the turn of i
-unfoldable pub walk : ℕ → ℕ → Walk
-walk zset zero = record { min = 0; max = 0; ranges = [] }
-walk zset (suc i) = turn (masked zset i) i (walk zset i)
-
--- after the loop
-abbrev pub finished : Walk → List ZoomRange
-finished w = cond (eqb (w .min) 0) (w .ranges) (pushed w)
-
--- the loop runs while i < MAX_ZOOM
-abbrev pub zoomRanges : ℕ → List ZoomRange
-zoomRanges zset = finished (walk zset 30)

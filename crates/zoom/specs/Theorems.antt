@@ -1,25 +1,23 @@
 -- What is proved of the zoom sets beyond each function's promise: sets and lists undo each other, the Rust computes what document 01 says,
 -- and the Rust's two turned readings do not undo each other. Zooms has the definitions, Rust the Rust's functions on values.
 use mathlib.Core.Path.{_≡_, refl, sym, _∙_}
-use mathlib.Core.Bool.{false, cond, _&&_, or-false}
+use mathlib.Core.Bool.{false, _&&_, or-false}
 use mathlib.Core.List.{List, [], _∷_, List·Memᴰ}
-use Prim.Native.Nat.{ℕ, suc, _+_, _-_, _^_, _≤_, _<_}
+use Prim.Native.Nat.{ℕ, suc, _-_, _^_, _≤_, _<_}
 use native.Mathlib.Omega.{arith}
 use lib.Dec.{eqb}
 use lib.ListN.{length, getD}
 use lib.Bits.{bitAnd}
 use borrow.Author.Tests.{le-ltb}
 use Rattle.bits.specs.Powers.{pow-within}
-use Rattle.zoom.specs.AsRust.{lowest, highest, mirror, zooms-as-rust, turned-zooms, none-deeper, set-as-rust, set-rev-as-rust}
-use Rattle.zoom.specs.AsRust.{range-as-rust, runs-as-rust}
-use Rattle.zoom.specs.Bits.{hasBit, those, setOf, between}
-use Rattle.zoom.specs.Cover.{fromTo, spread, runs-cover}
-use Rattle.zoom.specs.Laws.{set-of-one, set-of-span, set-same, bit-and}
-use Rattle.zoom.specs.Listing.{those-rising, set-back, list-back, rev-lower}
-use Rattle.zoom.specs.Rust.{zoomMaxXY, mask, zset2zvec, zset2zvecRev, zvec2zset, zvec2zsetRev, bitandZoom, all, fromMax, fromMin, default, zoomRanges}
-use Rattle.zoom.specs.Runs.{open-run, run-count}
-use Rattle.zoom.specs.Zooms.{lastZoom, turnBit, zoomsOf, zoomsOfRev, listed, anyDeeper, setOfZooms, setOfZoomsRev}
-use Rattle.zoom.specs.Zooms.{zoomBit, zoomBitRev, andZoom, rangeOf, inRun, runStarts, runEnds, runLows, runHighs}
+use Rattle.zoom_bits.specs.Bits.{hasBit, those, setOf, between, fromTo, lastZoom, turnBit, listed, anyDeeper, setOfZooms}
+use Rattle.zoom_bits.specs.Laws.{set-of-one, set-of-span, set-same, bit-and}
+use Rattle.zoom_bits.specs.Masks.{mask}
+use Rattle.zoom_bits.specs.Rising.{those-rising}
+use Rattle.zoom.specs.AsRust.{mirror, zooms-as-rust, turned-zooms, none-deeper, set-as-rust, set-rev-as-rust, range-as-rust}
+use Rattle.zoom.specs.Listing.{set-back, list-back, rev-lower}
+use Rattle.zoom.specs.Rust.{zoomMaxXY, zset2zvec, zset2zvecRev, zvec2zset, zvec2zsetRev, bitandZoom, all}
+use Rattle.zoom.specs.Zooms.{zoomsOf, zoomsOfRev, setOfZoomsRev, zoomBit, zoomBitRev, andZoom}
 
 -- ---- there and back
 
@@ -70,16 +68,9 @@ rust-and-zoom zset zoom h = rw (le-ltb lastZoom zoom h, pow-within (31 - zoom) 3
 pub rust-all : all ≡ 2 ^ suc lastZoom - 1
 rust-all = refl
 
-pub rust-ranges : (n : ℕ) → (fromMax n ≡ rangeOf 0 n) × (fromMin n ≡ rangeOf n lastZoom) × (default ≡ rangeOf 0 lastZoom)
-rust-ranges n = (refl, refl, refl)
-
 -- the last column and row of a zoom of 0 to 29
 pub rust-zoom-max-xy : (zoom : ℕ) → zoom ≤ 29 → zoomMaxXY zoom ≡ 2 ^ zoom - 1
 rust-zoom-max-xy zoom h = rw (pow-within zoom 32 (omega arith))
-
--- the loop's ranges are the runs, in their order
-pub rust-zoom-ranges : (zset : ℕ) → (lowest (zoomRanges zset) ≡ runLows zset) × (highest (zoomRanges zset) ≡ runHighs zset)
-rust-zoom-ranges zset = runs-as-rust zset
 
 -- ---- the turned readings do not undo each other
 
@@ -118,16 +109,3 @@ one-zoom-rev z h =
     set-same (λ i. listed (z ∷ []) (turnBit - i)) (λ i. eqb i (turnBit - z)) (suc turnBit)
     (λ i l. or-false (eqb (turnBit - i) z) ∙ sym (mirror i z (omega arith) (omega arith)))
     ∙ set-of-one (turnBit - z) (suc turnBit) (omega arith)
-
--- ---- runs
-
--- the runs, each from its lowest to its highest zoom, one after the other, are the zooms of the set that runs are made of
-pub runs-hold-the-zooms : (zset : ℕ) → spread (runLows zset) (runHighs zset) ≡ those (inRun zset) (suc lastZoom)
-runs-hold-the-zooms zset = runs-cover zset
-
--- a zoom is in a run exactly if one run more starts up to it than ends before it
-pub runs-start-and-end : (zset n : ℕ) → length (those (runStarts zset) (suc n)) ≡ length (those (runEnds zset) n) + cond (inRun zset n) 1 0
-runs-start-and-end zset n = open-run zset n
-
-pub as-many-lows-as-highs : (zset : ℕ) → length (runLows zset) ≡ length (runHighs zset)
-as-many-lows-as-highs zset = run-count zset

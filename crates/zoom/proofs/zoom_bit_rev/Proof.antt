@@ -4,7 +4,7 @@ use native.Mathlib.Omega.{arith}
 use borrow.Author.Needs.{needs}
 use borrow.Author.Tests.{lt-ltb, le-ltb}
 use Rattle.bits.specs.Powers.{pow-within}
-use Rattle.zoom.specs.Zooms.{turnBit}
+use Rattle.zoom_bits.specs.Bits.{turnBit}
 use Rattle.zoom.proofs.zoom_bit_rev.Statement.{statement}
 use Rattle.zoom.proofs.zoom_bit_rev.Tie as tie
 

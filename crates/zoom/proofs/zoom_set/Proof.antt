@@ -2,8 +2,8 @@
 use Prim.Native.Nat.{suc}
 use borrow.Author.Needs.{needs}
 use borrow.Author.Tests.{lt-ltb, le-ltb, lt-leb, le-leb}
-use Rattle.zoom.specs.Laws.{set-of-empty-span}
-use Rattle.zoom.specs.Zooms.{lastZoom}
+use Rattle.zoom_bits.specs.Bits.{lastZoom}
+use Rattle.zoom_bits.specs.Laws.{set-of-empty-span}
 use Rattle.zoom.proofs.zoom_set.Statement.{statement}
 use Rattle.zoom.proofs.zoom_set.Tie as tie
 

@@ -3,9 +3,9 @@ use mathlib.Core.Path.{ap, _∙_}
 use mathlib.Core.List.{List}
 use Prim.Native.Nat.{ℕ, suc}
 use borrow.Author.Needs.{needs}
-use Rattle.zoom.specs.Lists.{those-of-set}
-use Rattle.zoom.specs.Zooms.{lastZoom, downFrom}
 use Rattle.errors.specs.Answer.{written}
+use Rattle.zoom_bits.specs.Bits.{lastZoom, downFrom}
+use Rattle.zoom_bits.specs.Laws.{those-of-set}
 use Rattle.zoom.proofs.zset2zvec_rev.Statement.{statement}
 use Rattle.zoom.proofs.zset2zvec_rev.Tie as tie
 

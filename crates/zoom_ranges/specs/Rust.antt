@@ -1,0 +1,46 @@
+-- What the Rust computes, on values: the ranges that it makes, and its loop of `zoom_ranges` in its own order. Theorems says that each is
+-- document 01's reading.
+use mathlib.Core.Bool.{Bool, true, false, cond}
+use mathlib.Core.List.{List, [], _∷_, _++_}
+use Prim.Native.Nat.{ℕ, zero, suc}
+use lib.Dec.{eqb}
+use Rattle.zoom_bits.specs.Masks.{masked}
+use Rattle.zoom_ranges.specs.Ranges.{rangeOf}
+use Rattle.zoom_ranges.specs.declared.ZoomRange.{ZoomRange}
+
+-- ZoomRange::from_max, from_min and default, whose MAX_ZOOM is 30
+abbrev pub fromMax : ℕ → ZoomRange
+fromMax max = rangeOf 0 max
+
+abbrev pub fromMin : ℕ → ZoomRange
+fromMin min = rangeOf min 30
+
+abbrev pub default : ZoomRange
+default = rangeOf 0 30
+
+-- the variables of the loop of zoom_ranges
+pub record Walk : Type 0 where
+  pub min : ℕ
+  pub max : ℕ
+  pub ranges : List ZoomRange
+
+abbrev pub pushed : Walk → List ZoomRange
+pushed w = w .ranges ++ (rangeOf (w .min) (w .max) ∷ [])
+
+-- one turn: a bit opens a run or lengthens it, a gap ends it, and min = 0 says that none is open
+abbrev pub turn : Bool → ℕ → Walk → Walk
+turn true i w = record { min = cond (eqb (w .min) 0) i (w .min); max = i; ranges = w .ranges }
+turn false i w = cond (eqb (w .min) 0) w (record { min = 0; max = 0; ranges = pushed w })
+
+-- the variables before the turn of i
+unfoldable pub walk : ℕ → ℕ → Walk
+walk zset zero = record { min = 0; max = 0; ranges = [] }
+walk zset (suc i) = turn (masked zset i) i (walk zset i)
+
+-- after the loop
+abbrev pub finished : Walk → List ZoomRange
+finished w = cond (eqb (w .min) 0) (w .ranges) (pushed w)
+
+-- the loop runs while i < MAX_ZOOM
+abbrev pub zoomRanges : ℕ → List ZoomRange
+zoomRanges zset = finished (walk zset 30)
