@@ -54,6 +54,7 @@ pub fn zset2zvec_rev(zset: u32, out: &mut [u8]) -> Count
     zoom_bits::zooms_into(zoom_bits::reversed(zset, LAST_ZOOM), out)
 }
 
+// The set of the listed zooms.
 pub fn zvec2zset(zvec: &[u8]) -> U32Answer
     ensures { λ r. ⌜ u32Case r ≡ zvecSet (now (zvec .entry)) ⌝ }
 {
@@ -63,6 +64,7 @@ pub fn zvec2zset(zvec: &[u8]) -> U32Answer
     }
 }
 
+// The number of the listed zooms whose bit 31 - i is zoom i.
 pub fn zvec2zset_rev(zvec: &[u8]) -> U32Answer
     ensures { λ r. ⌜ u32Case r ≡ zvecSetRev (now (zvec .entry)) ⌝ }
 {
@@ -96,6 +98,7 @@ pub fn zoom_set(range: ZoomRange) -> ZoomSetAnswer
 }
 
 impl ZoomSet {
+    // The set of a number, whose bit i is zoom i.
     pub fn new(zset: u32) -> ZoomSet
         ensures { λ r. ⌜ r .0 ≡ zset ⌝ }
     {
@@ -109,12 +112,14 @@ impl ZoomSet {
         self.0
     }
 
+    // The set of the listed zooms.
     pub fn from_zooms(zooms: &[u8]) -> ZoomSetAnswer
         ensures { λ r. ⌜ zoomSetCase r ≡ zvecSet (now (zooms .entry)) ⌝ }
     {
         as_set(zvec2zset(zooms))
     }
 
+    // The set of one zoom.
     pub fn from_zoom(zoom: u8) -> ZoomSetAnswer
         ensures { λ r. ⌜ zoomSetCase r ≡ zoomBit zoom ⌝ }
     {
@@ -124,30 +129,35 @@ impl ZoomSet {
         ZoomSetAnswer::Set(ZoomSet(bits::pow2(zoom)))
     }
 
+    // The set of all zooms, 0 to 30.
     pub fn all() -> ZoomSet
         ensures { λ r. ⌜ r .0 ≡ 2 ^ suc lastZoom - 1 ⌝ }
     {
         ZoomSet(0x7fff_ffff)
     }
 
+    // The zooms of the set, rising.
     pub fn to_zooms(self, out: &mut [u8]) -> Count
         ensures { λ r. ⌜ left r (now (out .exit)) ≡ written 0 (zoomsOf (self .0)) (now (out .entry)) ⌝ }
     {
         zset2zvec(self.0, out)
     }
 
+    // The runs of zooms of the set.
     pub fn zoom_ranges(self, lows: &mut [u8], highs: &mut [u8]) -> Count
         ensures { λ r. ⌜ leftTwo r (now (lows .exit)) (now (highs .exit)) ≡ rangesOf (self .0) (now (lows .entry)) (now (highs .entry)) ⌝ }
     {
         zoom_ranges::zoom_ranges(self.0, lows, highs)
     }
 
+    // The bits that both sets have.
     pub fn and(self, other: ZoomSet) -> ZoomSet
         ensures { λ r. ⌜ r .0 ≡ bitAnd (self .0) (other .0) ⌝ }
     {
         ZoomSet(self.0 & other.0)
     }
 
+    // The bits that the set and a number both have.
     pub fn and_bits(self, bits: u32) -> ZoomSet
         ensures { λ r. ⌜ r .0 ≡ bitAnd (self .0) bits ⌝ }
     {

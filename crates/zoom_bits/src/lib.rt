@@ -16,6 +16,7 @@ pub const LAST_ZOOM: u8 = 30;
 // The bit of a set that says that it is read the other way round.
 pub const TURN_BIT: u8 = 31;
 
+// Whether a set has a bit.
 pub fn has(set: u32, bit: u8) -> bool
     requires { ⌜ bit < 32 ⌝ }
     ensures { λ r. ⌜ r ≡ hasBit set bit ⌝ }
@@ -47,6 +48,7 @@ pub fn span(low: u8, high: u8) -> u32
     bits::pow2(high + 1) - bits::pow2(low)
 }
 
+// How many zooms a set has.
 pub fn count_zooms(set: u32) -> usize
     ensures { λ r. ⌜ r ≡ length (those (hasBit set) (suc lastZoom)) ⌝ }
 {

@@ -35,18 +35,21 @@ pub fn zoom_ranges(zset: u32, lows: &mut [u8], highs: &mut [u8]) -> Count
 }
 
 impl ZoomRange {
+    // The range from min to max.
     pub fn new(min: u8, max: u8) -> ZoomRange
         ensures { λ r. ⌜ r ≡ rangeOf min max ⌝ }
     {
         ZoomRange { min, max }
     }
 
+    // The range from 0 to max.
     pub fn from_max(max: u8) -> ZoomRange
         ensures { λ r. ⌜ r ≡ rangeOf 0 max ⌝ }
     {
         ZoomRange { min: 0, max }
     }
 
+    // The range from min to 30.
     pub fn from_min(min: u8) -> ZoomRange
         ensures { λ r. ⌜ r ≡ rangeOf min lastZoom ⌝ }
     {
@@ -56,6 +59,7 @@ impl ZoomRange {
         }
     }
 
+    // The range from 0 to 30.
     pub fn default() -> ZoomRange
         ensures { λ r. ⌜ r ≡ rangeOf 0 lastZoom ⌝ }
     {
