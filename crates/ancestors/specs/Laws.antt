@@ -95,7 +95,8 @@ built-listed : {m : ℕ} {S : Tile → Bool} → Within maxZoom S → maxZoom �
 built-listed w d (listed e) = e
 built-listed {S = S} w d (joined {p = p} l a b c e) = let v = w (child p 0 0) (built-listed w d a) in absurd (omega (arith, v .zoom))
 
-pub settled-tops : {m r : ℕ} {list after : List ℕ} → maxZoom ≤ m → TileNumbers locationOf list → Settles m list after r → Tops list (take r after)
+pub settled-tops : {m r : ℕ} {list after : List ℕ} → maxZoom ≤ m → TileNumbers locationOf list → Settles m list after r
+    → Tops list (take r after)
 settled-tops {list = list} d f s = record {
   rising = s .rising;
   numbers = s .locations;

@@ -14,9 +14,11 @@ use Rattle.tile_set.specs.Set.{passes, uncovered, simplifiedV1}
 use Rattle.ancestors.specs.Tops.{Uncovers}
 
 pub sort-uncovers : {m r : ℕ} {after : List ℕ} (list : List ℕ) → Uncovers m (sortN list) after r → Uncovers m list after r
-sort-uncovers {m} list u = record { within = u .within; numbers = u .numbers; set = u .set ∙ ap (uncovered m) (sort-named locationTile list) }
+sort-uncovers {m} list u =
+    record { within = u .within; numbers = u .numbers; set = u .set ∙ ap (uncovered m) (sort-named locationTile list) }
 
-pub still-listed : {m left count r : ℕ} {codes after memory : List ℕ} (list : List ℕ) → Uncovers m list codes left → Still m (take left codes) after count
+pub still-listed : {m left count r : ℕ} {codes after memory : List ℕ} (list : List ℕ) → Uncovers m list codes left
+    → Still m (take left codes) after count
     → Listed (named mortonTile (take count after)) memory r → Listed (simplifiedV1 maxZoom m (named locationTile list)) memory r
 unfolding simplifiedV1
 still-listed {m} list u s l = rw (s .set ∙ ap (passes maxZoom m) (u .set)) at l

@@ -169,7 +169,8 @@ module _ {m : ℕ} {l₀ tops l : List ℕ} {count top i : ℕ} (f : TileNumbers
         where
           goes : uncovered m S (tiles l i) ≡ true → ⊥
           goes =
-              found-goes m T (top-named T r (F .within)) holds n (top-location T r (F .within) .of-map) (next-location .of-map) a (omega arith)
+              found-goes m T (top-named T r (F .within)) holds n (top-location T r (F .within) .of-map) (next-location .of-map) a
+              (omega arith)
               (rw (morton, above) at e)
 
           stands : (k : ℕ) → k < i + 1 → uncovered m S (tiles l₀ k) ≡ true → Stands l count (mortonOf (tiles l₀ k))
@@ -214,7 +215,8 @@ module _ {m : ℕ} {l₀ tops l : List ℕ} {count top i : ℕ} (f : TileNumbers
               pick (no c) = let v : n ≡ i = omega arith in (count, omega arith, rw (v, ← same) new)
 
 -- at the end of the list
-module _ {m : ℕ} {l₀ tops l : List ℕ} {count top i : ℕ} (f : TileNumbers locationOf l₀) (W : Walk m l₀ tops l count top i) (h : length l ≤ i) where
+module _ {m : ℕ} {l₀ tops l : List ℕ} {count top i : ℕ} (f : TileNumbers locationOf l₀) (W : Walk m l₀ tops l count top i)
+    (h : length l ≤ i) where
   fits : count ≤ length l
   fits = omega (arith, W .order, W .within)
 

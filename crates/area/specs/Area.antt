@@ -1,4 +1,5 @@
--- Union, common part and difference of two settled lists, from document 01's "Tile list": what each call answers and leaves in the lent memory.
+-- Union, common part and difference of two settled lists, from document 01's "Tile list": what each call answers and leaves in the
+-- lent memory.
 use mathlib.Core.Bool.{Bool, not, _&&_, _||_}
 use mathlib.Core.List.{List, _++_, map}
 use Prim.Native.Nat.{ℕ, _+_}

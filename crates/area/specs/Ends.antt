@@ -52,7 +52,8 @@ named-append : (tile : ℕ → Tile) (a b : List ℕ) (t : Tile) → named tile 
 unfolding named
 named-append tile a b t = any-append (λ n. same (tile n) t) a b
 
-locations-cover : (list : List ℕ) → allOf isEntry list ≡ true → Cover maxZoom (groundOf list) (λ t. named locationTile (locationsOf list) t ≡ true)
+locations-cover : (list : List ℕ) → allOf isEntry list ≡ true
+    → Cover maxZoom (groundOf list) (λ t. named locationTile (locationsOf list) t ≡ true)
 locations-cover list e = rw (locations-named list e) (listed-covers list e)
 
 locations-tops : (list : List ℕ) → allOf isEntry list ≡ true → isSettled list ≡ true
@@ -82,17 +83,22 @@ module _ (a b : List ℕ) (passed : pairTests a b ≡ 0) where
       simplified-entries (λ X Y. groundOf a X Y || groundOf b X Y) (named locationTile (locationsOf a ++ locationsOf b))
       (subst (λ (S : Tile → Bool). Cover maxZoom (λ X Y. groundOf a X Y || groundOf b X Y) (λ t. S t ≡ true))
       (λ i t. sym (named-append locationTile (locationsOf a) (locationsOf b) t) i)
-      (union-covers (named locationTile (locationsOf a)) (named locationTile (locationsOf b)) (locations-cover a entries-a) (locations-cover b entries-b)))
+      (union-covers (named locationTile (locationsOf a)) (named locationTile (locationsOf b)) (locations-cover a entries-a)
+      (locations-cover b entries-b)))
   join-entries false =
-      largest-entries (λ X Y. groundOf a X Y && groundOf b X Y) (shared (named locationTile (locationsOf a)) (named locationTile (locationsOf b)))
-      (common-covers (named locationTile (locationsOf a)) (named locationTile (locationsOf b)) (locations-cover a entries-a) (locations-cover b entries-b))
-      (common-tops (named locationTile (locationsOf a)) (named locationTile (locationsOf b)) (locations-cover a entries-a) (locations-cover b entries-b)
+      largest-entries (λ X Y. groundOf a X Y && groundOf b X Y)
+      (shared (named locationTile (locationsOf a)) (named locationTile (locationsOf b)))
+      (common-covers (named locationTile (locationsOf a)) (named locationTile (locationsOf b)) (locations-cover a entries-a)
+      (locations-cover b entries-b))
+      (common-tops (named locationTile (locationsOf a)) (named locationTile (locationsOf b)) (locations-cover a entries-a)
+      (locations-cover b entries-b)
       (locations-tops a entries-a settled-a) (locations-tops b entries-b settled-b))
 
   pub left-entries : entriesInOrder (leftSet a b) ≡ differenceEntries a b
   left-entries =
       largest-entries (λ X Y. groundOf a X Y && not (groundOf b X Y)) (leftSet a b)
-      (difference-covers (locationsOf a) (locationsOf b) (groundOf a) (groundOf b) (locations-cover a entries-a) (locations-cover b entries-b))
+      (difference-covers (locationsOf a) (locationsOf b) (groundOf a) (groundOf b) (locations-cover a entries-a)
+      (locations-cover b entries-b))
       (difference-tops (locationsOf a) (locationsOf b) (groundOf a) (groundOf b) (locations-cover a entries-a) (locations-cover b entries-b)
       (locations-tops a entries-a settled-a))
 
@@ -137,7 +143,8 @@ module _ (a b keys : List ℕ) (r : Ready a b keys) where
   tiles-left = without (locationsOf a) (locationsOf b)
 
   pub few-left : length tiles-left ≤ length a + 3 * (maxZoom * length b)
-  few-left = rw (locations-length a, locations-length b) at (without-length (locationsOf a) (r .in-runs .first) (locationsOf b) (r .in-runs .second))
+  few-left = rw (locations-length a, locations-length b) at
+      (without-length (locationsOf a) (r .in-runs .first) (locationsOf b) (r .in-runs .second))
 
   module _ (before after : List ℕ) (n : ℕ) (m : Remains (take (length a) ahead) (drop (length a) ahead) before after n)
       (e : length tiles-left ≤ length before) where
@@ -152,7 +159,11 @@ module _ (a b keys : List ℕ) (r : Ready a b keys) where
     pub left-all : (take n after ≡ map locationOf tiles-left) × (n ≤ length after)
     left-all = (
       rw left-first (take-at (map locationOf tiles-left) (drop (length (map locationOf tiles-left)) before) n left-many),
-      rw left-first (omega (arith, left-many, length-append (map locationOf tiles-left) (drop (length (map locationOf tiles-left)) before))),
+      rw left-first (omega (
+        arith,
+        left-many,
+        length-append (map locationOf tiles-left) (drop (length (map locationOf tiles-left)) before),
+      )),
     )
 
     left-twice : take n (take n after) ≡ take n after
@@ -164,13 +175,15 @@ module _ (a b keys : List ℕ) (r : Ready a b keys) where
         ∙ ap (λ (i : ℕ). drop i before) left-many)
 
     left-numbers : TileNumbers locationOf (take n after)
-    left-numbers = rw (left-all .0) (runs-numbers (map locationOf tiles-left) (without-runs (locationsOf a) (locationsOf b) (r .in-runs .first)))
+    left-numbers = rw (left-all .0)
+        (runs-numbers (map locationOf tiles-left) (without-runs (locationsOf a) (locationsOf b) (r .in-runs .first)))
 
     -- where what is left is lent on by itself
     pub part-numbers : (n ≤ length (take n after)) × TileNumbers locationOf (take n (take n after))
     part-numbers = (omega (arith, length-take-le n after (left-all .1)), rw left-twice left-numbers)
 
-    pub part-listed : {memory : List ℕ} {count : ℕ} → Listed (named locationTile (take n (take n after))) memory count → Listed (leftSet a b) memory count
+    pub part-listed : {memory : List ℕ} {count : ℕ} → Listed (named locationTile (take n (take n after))) memory count
+        → Listed (leftSet a b) memory count
     part-listed {memory} {count} = subst (λ (l : List ℕ). Listed (named locationTile l) memory count) (left-twice ∙ left-all .0)
 
 -- the ends of a call on lists that have passed the tests
@@ -209,7 +222,8 @@ module _ (a b keys memory : List ℕ) (r : Ready a b keys) where
   pub left-count : length (differenceEntries a b) ≡ length remains
   left-count =
       sym (ap length (left-entries a b (r .passed)))
-      ∙ (runs-count (map locationOf remains) (without-runs (locationsOf a) (locationsOf b) (r .in-runs .first)) ∙ length-map remains locationOf)
+      ∙ (runs-count (map locationOf remains) (without-runs (locationsOf a) (locationsOf b) (r .in-runs .first))
+      ∙ length-map remains locationOf)
 
   pub difference-short : length memory < length remains → left (count.Refused Memory) memory ≡ differenceOf a b memory
   difference-short h = written-short (differenceEntries a b) memory accepted (omega (arith, left-count))
@@ -229,18 +243,23 @@ module _ (a b keys memory : List ℕ) (r : Ready a b keys) where
           l .left ∙ (rw (z, append-nil (entriesInOrder (leftSet a b))) (left-entries a b (r .passed)))
 
   -- what the code counted
-  pub counted-left : {n : ℕ} → n ≡ length (without (take (length a) (front a b keys r)) (drop (length a) (front a b keys r))) → n ≡ length remains
+  pub counted-left : {n : ℕ} → n ≡ length (without (take (length a) (front a b keys r)) (drop (length a) (front a b keys r)))
+      → n ≡ length remains
   counted-left e = e ∙ ap length (front-left a b keys r)
 
-  pub written-all : (after : List ℕ) (n : ℕ) → Remains (take (length a) (front a b keys r)) (drop (length a) (front a b keys r)) memory after n
+  pub written-all : (after : List ℕ) (n : ℕ)
+      → Remains (take (length a) (front a b keys r)) (drop (length a) (front a b keys r)) memory after n
       → length remains ≤ length memory → (part : List ℕ) (m : ℕ) → length part ≡ length (take n after)
       → Listed (named locationTile (take n (take n after))) part m
       → left (count.Counted m) (part ++ drop n after) ≡ differenceOf a b memory
   written-all after n w e part m k l =
       let f : n ≡ length remains = counted-left (w .count) in
-      ap (λ (rest : List ℕ). left (count.Counted m) (part ++ rest)) (left-rest a b keys r memory after n w e ∙ ap (λ (i : ℕ). drop i memory) f)
-      ∙ difference-done part m e (k ∙ (length-take-le n after (left-all a b keys r memory after n w e .1) ∙ f)) (part-listed a b keys r memory after n w e l)
+      ap (λ (rest : List ℕ). left (count.Counted m) (part ++ rest))
+      (left-rest a b keys r memory after n w e ∙ ap (λ (i : ℕ). drop i memory) f)
+      ∙ difference-done part m e (k ∙ (length-take-le n after (left-all a b keys r memory after n w e .1) ∙ f))
+      (part-listed a b keys r memory after n w e l)
 
 -- each work's own promise is what is asked of it
-pub by-work : {work : Work} {answer : Lent ℕ} (a b memory : List ℕ) (w : Work) → work ≡ w → answer ≡ workOf w a b memory → answer ≡ workOf work a b memory
+pub by-work : {work : Work} {answer : Lent ℕ} (a b memory : List ℕ) (w : Work) → work ≡ w → answer ≡ workOf w a b memory
+    → answer ≡ workOf work a b memory
 by-work a b memory w e f = rw e f

@@ -38,7 +38,8 @@ pub settled-same : (G H : ℕ → ℕ → Bool) → Same maxZoom G H → settled
 settled-same G H e = ap entriesOf (settled-list-same maxZoom G H e)
 
 -- a settled list of tiles is that of its ground, and so is a list of entries
-pub one-settled : (G : ℕ → ℕ → Bool) (list : List ℕ) → Settled maxZoom (tilesOf list) → Same maxZoom (groundOf list) G → list ≡ settledEntries G
+pub one-settled : (G : ℕ → ℕ → Bool) (list : List ℕ) → Settled maxZoom (tilesOf list) → Same maxZoom (groundOf list) G
+    → list ≡ settledEntries G
 one-settled G list s e = sym (entries list) ∙ ap entriesOf (one-settled-list maxZoom G (tilesOf list) s e)
   where
     entries : (list : List ℕ) → entriesOf (tilesOf list) ≡ list
@@ -66,7 +67,8 @@ listed-covers list e = record { of-map = listed-within list e; covers = covers; 
     of-map : (t : Tile) → List·Memᴰ t (tilesOf list) → Valid maxZoom t
     of-map t m = let s = in-map entryTile list m in listed-within list e t (names entryTile list (s .0) t (s .1) (sym (s .2)))
 
-    covers : (X Y : ℕ) → X < 2 ^ maxZoom → Y < 2 ^ maxZoom → groundOf list X Y ≡ true → (r : Tile) × (listed list r ≡ true) × Holds r (tileAt X Y maxZoom)
+    covers : (X Y : ℕ) → X < 2 ^ maxZoom → Y < 2 ^ maxZoom → groundOf list X Y ≡ true
+        → (r : Tile) × (listed list r ≡ true) × Holds r (tileAt X Y maxZoom)
     covers X Y a b g =
         let r = ground-of (tilesOf list) X Y of-map g in
         let s = in-map entryTile list (r .1) in
@@ -88,5 +90,6 @@ pub simplified-entries : (G : ℕ → ℕ → Bool) (S : Tile → Bool) → Cove
 simplified-entries G S C = ap entriesOf (simplified-list-from 0 maxZoom S C (λ t e. omega arith))
 
 -- what a call of `simplify` gives a list that is not refused
-pub simplify-entries : (list : List ℕ) → allOf isEntry list ≡ true → entriesInOrder (simplified maxZoom 0 (listed list)) ≡ settledEntries (groundOf list)
+pub simplify-entries : (list : List ℕ) → allOf isEntry list ≡ true
+    → entriesInOrder (simplified maxZoom 0 (listed list)) ≡ settledEntries (groundOf list)
 simplify-entries list e = simplified-entries (groundOf list) (listed list) (listed-covers list e)

@@ -1,5 +1,5 @@
--- What is left of one settled list when another is taken away: it covers the ground that is only the first one's, no parent of a tile is full, and
--- no tile is left twice.
+-- What is left of one settled list when another is taken away: it covers the ground that is only the first one's, no parent of a tile
+-- is full, and no tile is left twice.
 use mathlib.Core.Path.{_≡_, refl, sym, ap, _∙_}
 use mathlib.Core.Logic.{inl, inr}
 use mathlib.Core.Bool.{Bool, true, false, not, _&&_, true≢false}
@@ -77,7 +77,8 @@ module _ (kept gone : List ℕ) (G H : ℕ → ℕ → Bool) (C : Cover maxZoom 
   spared : (X Y : ℕ) → X < 2 ^ maxZoom → Y < 2 ^ maxZoom → H X Y ≡ false → (g : Tile) → List·Memᴰ g taken → Holds g (tileAt X Y maxZoom) → ⊥
   spared X Y a b e g m h = true≢false (sym (E .covered X Y g (of-taken g m) h) ∙ e)
 
-  not-in : (X Y : ℕ) → X < 2 ^ maxZoom → Y < 2 ^ maxZoom → ((g : Tile) → List·Memᴰ g taken → Holds g (tileAt X Y maxZoom) → ⊥) → H X Y ≡ false
+  not-in : (X Y : ℕ) → X < 2 ^ maxZoom → Y < 2 ^ maxZoom → ((g : Tile) → List·Memᴰ g taken → Holds g (tileAt X Y maxZoom) → ⊥)
+      → H X Y ≡ false
   not-in X Y a b none = is-false (H X Y) (λ e. let r = E .covers X Y a b e in none (r .0) (in-taken (r .0) (r .1)) (r .2))
 
   pub difference-covers : Cover maxZoom only Left
@@ -88,9 +89,14 @@ module _ (kept gone : List ℕ) (G H : ℕ → ℕ → Bool) (C : Cover maxZoom 
           let p = and-parts (G X Y) (not (H X Y)) e in
           let w = C .covers X Y a b (p .0) in
           let v = C .of-map (w .0) (w .1) in
-          let r = left-covers maxZoom taken deep (tileAt X Y maxZoom) refl (w .0) (v .zoom) .1 (w .2, spared X Y a b (not-true (H X Y) (p .1))) in
-          let s = named-by locationTile kept (w .0) (w .1) in
-          (r .0, list-in (r .0) (left-all-in maxZoom taken (map locationTile kept) (Memᴰ·cast (sym (s .2)) (into-map locationTile kept (s .1))) (r .1)), r .2)
+          let r = left-covers maxZoom taken deep (tileAt X Y maxZoom) refl (w .0) (v .zoom) .1
+          (w .2, spared X Y a b (not-true (H X Y) (p .1))) in
+          let s = named-by locationTile kept (w .0) (w .1) in (
+            r .0,
+            list-in (r .0)
+                (left-all-in maxZoom taken (map locationTile kept) (Memᴰ·cast (sym (s .2)) (into-map locationTile kept (s .1))) (r .1)),
+            r .2,
+          )
 
       covered : (X Y : ℕ) (t : Tile) → Left t → Holds t (tileAt X Y maxZoom) → only X Y ≡ true
       covered X Y t e h =
@@ -111,7 +117,8 @@ module _ (kept gone : List ℕ) (G H : ℕ → ℕ → Bool) (C : Cover maxZoom 
       low = let v = difference-covers .of-map t e in omega (arith, v .zoom)
 
       pick : Needed maxZoom taken deep (f .whole) t → ⊥
-      pick (inl s) = tops t (rw s (f .in-kept)) l (full-more maxZoom only G (parentTile t) low (λ X Y k. and-parts (G X Y) (not (H X Y)) k .0) full)
+      pick (inl s) = tops t (rw s (f .in-kept)) l
+          (full-more maxZoom only G (parentTile t) low (λ X Y k. and-parts (G X Y) (not (H X Y)) k .0) full)
       pick (inr (h, (g, m, k))) =
           let c = first-cell g (deep g m) in
           let o = full-cells maxZoom only (parentTile t) full (holds-trans k c) in

@@ -26,7 +26,8 @@ held-when S t e =
     (ancestor t (r .0), r .2, ancestor-holds t (r .0) (omega (arith, r .1)))
 
 when-held : (S : Tile → Bool) {s t : Tile} → S s ≡ true → Holds s t → heldBy S t ≡ true
-when-held S {s} {t} e h = any-below-in (suc (t .z)) (λ s. S (ancestor t s)) (s .z) (omega (arith, h .above)) (sym (ap S (holder-is-ancestor h)) ∙ e)
+when-held S {s} {t} e h =
+    any-below-in (suc (t .z)) (λ s. S (ancestor t s)) (s .z) (omega (arith, h .above)) (sym (ap S (holder-is-ancestor h)) ∙ e)
 
 -- a tile of the common part is of one set and lies in a tile of the other
 pub data Shared (A B : Tile → Bool) (t : Tile) : Type 0 where
@@ -67,7 +68,8 @@ module _ {D : ℕ} {G H : ℕ → ℕ → Bool} (A B : Tile → Bool) (C : Cover
           ⊎-elim (λ k. rw (C .covered X Y t k h)) (λ k. rw (E .covered X Y t k h) (or-true (G X Y))) (or-cases (A t) (B t) e)
 
   pub common-covers : Cover D (λ X Y. G X Y && H X Y) (λ t. shared A B t ≡ true)
-  common-covers = record { of-map = λ t e. of-map t (shared-when A B t e); covers = covers; covered = λ X Y t e h. covered X Y t h (shared-when A B t e) }
+  common-covers = record
+      { of-map = λ t e. of-map t (shared-when A B t e); covers = covers; covered = λ X Y t e h. covered X Y t h (shared-when A B t e) }
     where
       of-map : (t : Tile) → Shared A B t → Valid D t
       of-map t (of-first e s f h) = C .of-map t e
@@ -91,7 +93,8 @@ module _ {D : ℕ} {G H : ℕ → ℕ → Bool} (A B : Tile → Bool) (C : Cover
       covered X Y t h (of-second e s f k) = rw (C .covered X Y s f (holds-trans k h), E .covered X Y t e h)
 
   -- the parent of a tile of the common part is not full, because it is not in the set that the tile is of
-  pub common-tops : ((t : Tile) → A t ≡ true → 0 < t .z → Full D G (parentTile t) → ⊥) → ((t : Tile) → B t ≡ true → 0 < t .z → Full D H (parentTile t) → ⊥)
+  pub common-tops : ((t : Tile) → A t ≡ true → 0 < t .z → Full D G (parentTile t) → ⊥)
+      → ((t : Tile) → B t ≡ true → 0 < t .z → Full D H (parentTile t) → ⊥)
       → (t : Tile) → shared A B t ≡ true → 0 < t .z → Full D (λ X Y. G X Y && H X Y) (parentTile t) → ⊥
   common-tops p q t e l f = pick (shared-when A B t e)
     where
@@ -99,5 +102,7 @@ module _ {D : ℕ} {G H : ℕ → ℕ → Bool} (A B : Tile → Bool) (C : Cover
       low = let v = common-covers .of-map t e in omega (arith, v .zoom)
 
       pick : Shared A B t → ⊥
-      pick (of-first i s j h) = p t i l (full-more D (λ X Y. G X Y && H X Y) G (parentTile t) low (λ X Y k. and-parts (G X Y) (H X Y) k .0) f)
-      pick (of-second i s j h) = q t i l (full-more D (λ X Y. G X Y && H X Y) H (parentTile t) low (λ X Y k. and-parts (G X Y) (H X Y) k .1) f)
+      pick (of-first i s j h) =
+          p t i l (full-more D (λ X Y. G X Y && H X Y) G (parentTile t) low (λ X Y k. and-parts (G X Y) (H X Y) k .0) f)
+      pick (of-second i s j h) =
+          q t i l (full-more D (λ X Y. G X Y && H X Y) H (parentTile t) low (λ X Y k. and-parts (G X Y) (H X Y) k .1) f)

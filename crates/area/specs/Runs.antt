@@ -72,7 +72,8 @@ module _ (locations : List ℕ) (n : ℕ) where
     parted-merge out e = (runs-by (take n locations) (p .first), runs-by _ (parted-left .1), part-lengths ∙ e)
 
     -- both parts in one order are all locations in order
-    merged-sorted : {merged : List ℕ} → merged ≡ sortN (take n locations ++ take (length locations - n) (drop n locations)) → merged ≡ sortN locations
+    merged-sorted : {merged : List ℕ} → merged ≡ sortN (take n locations ++ take (length locations - n) (drop n locations))
+        → merged ≡ sortN locations
     merged-sorted e = e ∙ ap sortN (ap (λ (l : List ℕ). take n locations ++ l) tail-part ∙ take-append-drop n locations)
 
     pub parted-numbers : TileNumbers locationOf locations

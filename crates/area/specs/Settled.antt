@@ -34,9 +34,11 @@ tiles-in : (list : List ℕ) (t : Tile) → listed list t ≡ true → List·Mem
 tiles-in list t e = let s = named-by entryTile list t e in Memᴰ·cast (sym (s .2)) (into-map entryTile list (s .1))
 
 -- the ground of a list that 7 does not refuse is what the theorems on `merge` and `simplify` call covered by the set of its tiles
-pub ground-of-listed : (list : List ℕ) → allOf isEntry list ≡ true → (X Y : ℕ) → (groundOf list X Y ≡ true) ↔ Covered maxZoom (listed list) X Y
+pub ground-of-listed : (list : List ℕ) → allOf isEntry list ≡ true → (X Y : ℕ)
+    → (groundOf list X Y ≡ true) ↔ Covered maxZoom (listed list) X Y
 ground-of-listed list e =
-    ground-is-covered maxZoom (tilesOf list) (listed list) (λ t. (tiles-in list t, in-tiles list t)) (λ t m. listed-within list e t (in-tiles list t m))
+    ground-is-covered maxZoom (tilesOf list) (listed list) (λ t. (tiles-in list t, in-tiles list t))
+    (λ t m. listed-within list e t (in-tiles list t m))
 
 rises-ordered : (list : List ℕ) → strictlyInOrder list ≡ true → Ordered (tilesOf list)
 unfolding strictlyInOrder
@@ -55,7 +57,10 @@ ordered-rises : (list : List ℕ) → Ordered (tilesOf list) → strictlyInOrder
 unfolding strictlyInOrder
 ordered-rises [] o = refl
 ordered-rises (a ∷ list) o =
-    rw (in-all (λ b. isBefore (entryTile a) (entryTile b)) list (λ b m. before-is (o .0 (entryTile b) (into-map entryTile list m))), ordered-rises list (o .1))
+    rw (
+      in-all (λ b. isBefore (entryTile a) (entryTile b)) list (λ b m. before-is (o .0 (entryTile b) (into-map entryTile list m))),
+      ordered-rises list (o .1),
+    )
 
 -- the three parts of the test
 module _ (list : List ℕ) (e : isSettled list ≡ true) where
@@ -74,7 +79,8 @@ module _ (list : List ℕ) (e : isSettled list ≡ true) where
   settled-no-four p a b c d = let q : whole (listed list) p ≡ true = rw (a, b, c, d) in true≢false (sym q ∙ with-four list (parts .2) p)
 
   -- no parent of a tile of the list lies whole in its ground
-  pub settled-tops : allOf isEntry list ≡ true → (t : Tile) → listed list t ≡ true → 0 < t .z → Full maxZoom (groundOf list) (parentTile t) → ⊥
+  pub settled-tops : allOf isEntry list ≡ true → (t : Tile) → listed list t ≡ true → 0 < t .z
+      → Full maxZoom (groundOf list) (parentTile t) → ⊥
   settled-tops f = parents-not-full (listed-covers list f) 0 settled-apart (λ p l. settled-no-four p)
 
 -- "Settled means: strictly in order, no tile beside its own ancestor, no four siblings together"
@@ -89,7 +95,8 @@ settled-test list = (says, said)
           of-map = λ t m. listed-within list (p .0) t (in-tiles list t m);
           in-order = rises-ordered list (parts list (p .1) .0);
           apart = λ s t m n. settled-apart list (p .1) s t (in-tiles list s m) (in-tiles list t n);
-          no-four = λ q a b c d. settled-no-four list (p .1) q (in-tiles list _ a) (in-tiles list _ b) (in-tiles list _ c) (in-tiles list _ d);
+          no-four = λ q a b c d. settled-no-four list (p .1) q (in-tiles list _ a) (in-tiles list _ b) (in-tiles list _ c)
+              (in-tiles list _ d);
         }
 
     said : Settled maxZoom (tilesOf list) → (allOf isEntry list && isSettled list) ≡ true

@@ -46,7 +46,8 @@ unfolding pairRefusal
 second-many a b h = rw (lt-ltb _ _ h, or-true (ltb maxEntries (length a)))
 
 -- a refusal of the lists decides, whatever is to be done
-pub refused : (work : Work) (why : Refusal) (a b memory : List ℕ) → numberOf why ≡ pairRefusal a b → left (count.Refused why) memory ≡ workOf work a b memory
+pub refused : (work : Work) (why : Refusal) (a b memory : List ℕ) → numberOf why ≡ pairRefusal a b
+    → left (count.Refused why) memory ≡ workOf work a b memory
 unfolding pairPlacesRefusal
 refused Union why a b memory e = rw (← e, positive why .1)
 refused Common why a b memory e = rw (← e, positive why .1)
@@ -70,7 +71,8 @@ module _ (a b t : List ℕ) (e : length a + length b ≡ length t) where
   abbrev pub refilled : List ℕ → List ℕ → List ℕ
   refilled ya yb = putMid (length a) (length (ya ++ drop (length a) t) - length a) (ya ++ drop (length a) t) yb
 
-  pub keyed-both : (ya yb : List ℕ) (first second : Bool) → length ya ≡ length (take (length a) t) → Keyed Location a ya first → not first ≡ false
+  pub keyed-both : (ya yb : List ℕ) (first second : Bool) → length ya ≡ length (take (length a) t) → Keyed Location a ya first
+      → not first ≡ false
       → Keyed Location b yb second → KeyedBoth a b (refilled ya yb) second
   keyed-both ya yb first second l k f m = record {
     answer = rw (← keys-fine Location first a ya k f) (m .answer);
@@ -95,11 +97,15 @@ pub first-not-settled : (a b keys ya : List ℕ) (r : Bool) → Tested a ya r �
 first-not-settled a b keys ya r k e = record { answer = rw (← (sym (not-true r e) ∙ k .answer)); in-runs = λ f. absurd (false≢true f) }
 
 -- both parts of the keys, as the tests want them
-pub first-keys : (a b keys : List ℕ) → keys ≡ map (entryKey Location) a ++ map (entryKey Location) b → take (length a) keys ≡ map (entryKey Location) a
-first-keys a b keys e = ap (take (length a)) e ∙ take-at (map (entryKey Location) a) (map (entryKey Location) b) (length a) (length-map a (entryKey Location))
+pub first-keys : (a b keys : List ℕ) → keys ≡ map (entryKey Location) a ++ map (entryKey Location) b
+    → take (length a) keys ≡ map (entryKey Location) a
+first-keys a b keys e =
+    ap (take (length a)) e ∙ take-at (map (entryKey Location) a) (map (entryKey Location) b) (length a) (length-map a (entryKey Location))
 
-pub second-keys : (a b keys : List ℕ) → keys ≡ map (entryKey Location) a ++ map (entryKey Location) b → drop (length a) keys ≡ map (entryKey Location) b
-second-keys a b keys e = ap (drop (length a)) e ∙ drop-at (map (entryKey Location) a) (map (entryKey Location) b) (length a) (length-map a (entryKey Location))
+pub second-keys : (a b keys : List ℕ) → keys ≡ map (entryKey Location) a ++ map (entryKey Location) b
+    → drop (length a) keys ≡ map (entryKey Location) b
+second-keys a b keys e =
+    ap (drop (length a)) e ∙ drop-at (map (entryKey Location) a) (map (entryKey Location) b) (length a) (length-map a (entryKey Location))
 
 pub keyed-entries : (a b keys : List ℕ) → KeyedBoth a b keys true → (allOf isEntry a ≡ true) × (allOf isEntry b ≡ true)
 keyed-entries a b keys k = and-parts (allOf isEntry a) (allOf isEntry b) (sym (k .answer))
@@ -109,7 +115,8 @@ pub located-no-tile : (a b keys keys' : List ℕ) (r : Bool) → KeyedBoth a b k
 located-no-tile a b keys keys' r k e =
     record { refusal = rw (← (sym (not-true r e) ∙ k .answer)); in-runs = λ p. absurd (never-zero NoTile (ap checkNumber p)) }
 
-pub located-not-settled : (a b keys keys' keys'' : List ℕ) (r s : Bool) → KeyedBoth a b keys r → not r ≡ false → SettledBoth a b keys' s → not s ≡ true
+pub located-not-settled : (a b keys keys' keys'' : List ℕ) (r s : Bool) → KeyedBoth a b keys r → not r ≡ false → SettledBoth a b keys' s
+    → not s ≡ true
     → Located a b keys'' (check.Refused NotSettled)
 located-not-settled a b keys keys' keys'' r s k e m f = record {
   refusal = rw (← (sym (not-false r e) ∙ k .answer), ← (sym (not-true s f) ∙ m .answer));
@@ -124,7 +131,8 @@ located-fine a b keys keys' r s k e m f = record {
 }
 
 pub made-ready : (a b keys part : List ℕ) (r : Check) → length a ≤ maxEntries → length b ≤ maxEntries → length a + length b ≤ length keys
-    → length part ≡ length (take (length a + length b) keys) → Located a b part r → r ≡ check.Fine → Ready a b (part ++ drop (length a + length b) keys)
+    → length part ≡ length (take (length a + length b) keys) → Located a b part r → r ≡ check.Fine
+    → Ready a b (part ++ drop (length a + length b) keys)
 made-ready a b keys part r h k l e p f = record {
   first-few = h;
   second-few = k;
@@ -136,7 +144,8 @@ made-ready a b keys part r h k l e p f = record {
     size : length part ≡ length a + length b
     size = e ∙ length-take-le (length a + length b) keys l
 
-pub not-located : (work : Work) (a b keys memory : List ℕ) (r : Check) (why : Refusal) → length a ≤ maxEntries → length b ≤ maxEntries → Located a b keys r
+pub not-located : (work : Work) (a b keys memory : List ℕ) (r : Check) (why : Refusal) → length a ≤ maxEntries → length b ≤ maxEntries
+    → Located a b keys r
     → r ≡ check.Refused why → left (count.Refused why) memory ≡ workOf work a b memory
 not-located work a b keys memory r why h k p f = refused work why a b memory (check-refused f (p .refusal) ∙ sym (pair-few a b h k))
 

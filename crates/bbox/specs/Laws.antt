@@ -14,7 +14,8 @@ point-tests true w e s n = and-assoc (w || e) s n
 point-tests false w e s n = and-assoc (w && e) s n
 
 pub box-tests : (p q w e s n : Bool)
-    → cond p (cond q (cond (w && e) (s && n) false) (cond (w || e) (s && n) false)) (n && s && e && w) ≡ cond (p && not q) (w || e) (w && e) && (s && n)
+    → cond p (cond q (cond (w && e) (s && n) false) (cond (w || e) (s && n) false)) (n && s && e && w)
+    ≡ cond (p && not q) (w || e) (w && e) && (s && n)
 box-tests true true true true s n = refl
 box-tests true true true false s n = refl
 box-tests true true false e s n = refl
@@ -70,7 +71,8 @@ in-box false true true true true f g k h = k tt tt tt tt
 pub in-upright : (c w e s n : Bool) → T (not c) → T w → T e → T s → T n → T (cond c (w || e) (w && e) && (s && n))
 in-upright false true true true true c w e s n = tt
 
-pub out-of-upright : {A : Type 0} (c w e s n : Bool) → T (not c) → (T w → T e → T s → T n → A) → T (cond c (w || e) (w && e) && (s && n)) → A
+pub out-of-upright : {A : Type 0} (c w e s n : Bool) → T (not c) → (T w → T e → T s → T n → A) → T (cond c (w || e) (w && e) && (s && n))
+    → A
 out-of-upright false w e s n c = all-four w e s n
 
 -- longitudes of a point in a box b in a box a, where a crosses or b does not

@@ -1,9 +1,11 @@
--- Laws of IEEE 754's comparisons: no NaN passes one; `le` is transitive, and total and reflexive but for NaN; what is at most another is not above it.
+-- Laws of IEEE 754's comparisons: no NaN passes one; `le` is transitive, and total and reflexive but for NaN; what is at most another
+-- is not above it.
 use mathlib.Core.Path.{_≡_, sym, _∙_}
 use mathlib.Core.Bool.{Bool, true, false, not, _&&_, _||_}
 use mathlib.Core.Logic.{_⊎_, inl, inr}
 use Prim.Native.Nat.{ℕ, zero, suc, _+_, _*_, _<_, _≤_}
-use native.Mathlib.Nat.{le-trans, le-of-eq, le-of-lt, eq-or-lt-of-le, mul-right-comm, mul-le-mul-right, le-of-mul-le-mul-right, zero-mul, mul-pos, zero-lt-suc}
+use native.Mathlib.Nat.{le-trans, le-of-eq, le-of-lt, eq-or-lt-of-le, mul-right-comm, mul-le-mul-right, le-of-mul-le-mul-right, zero-mul}
+use native.Mathlib.Nat.{mul-pos, zero-lt-suc}
 use native.Mathlib.Omega.{arith}
 use lib.Dec.{T, leb, ltb, eqb, leb→le, nleb→lt, lt→ltb, ltb→lt, eqb→eq, not-T}
 use lib.Ieee.{Float, nan, inf, fin, up, down, lt, eq, le, isNan, below, level}
@@ -48,7 +50,11 @@ read false a true b h =
     (zero, sym same ∙ zero)
 read true a false b h = tt
 read true a true b h =
-    elim (either (ltb b a) (eqb a b && true) h) [ inl p ↦ le-of-lt (ltb→lt b a p) | inr q ↦ le-of-eq (sym (eqb→eq a b (and-l (eqb a b) true q))) ]
+    elim (either (ltb b a) (eqb a b && true) h) [
+      | inl p ↦ le-of-lt (ltb→lt b a p)
+      | inr q ↦ le-of-eq
+          (sym (eqb→eq a b (and-l (eqb a b) true q)))
+    ]
 
 write : (s : Bool) (a : ℕ) (t : Bool) (b : ℕ) → Le s a t b → T (below s a t b || level s a t b)
 write false a false b h =
@@ -86,7 +92,8 @@ nought zero p q pos h = zero-mul q
 nought (suc P) p q pos h = let above : 0 < suc P * p = mul-pos (zero-lt-suc P) pos in absurd (omega arith)
 
 -- signed: where the signs differ, only zeros are equal
-trans-fin : (s t u : Bool) (P Q R p q r : ℕ) → 0 < p → 0 < q → 0 < r → Le s (P * q) t (Q * p) → Le t (Q * r) u (R * q) → Le s (P * r) u (R * p)
+trans-fin : (s t u : Bool) (P Q R p q r : ℕ) → 0 < p → 0 < q → 0 < r → Le s (P * q) t (Q * p) → Le t (Q * r) u (R * q)
+    → Le s (P * r) u (R * p)
 trans-fin false false false P Q R p q r pp pq pr h k = through P Q R p q r pq h k
 trans-fin false false true P Q R p q r pp pq pr h k = (nought P q r pq (omega (arith, nought Q r p pr (k .0))), nought R q p pq (k .1))
 trans-fin false true false P Q R p q r pp pq pr h k = omega (arith, nought P q r pq (h .0))
@@ -126,7 +133,8 @@ le-not-above (inf true) (inf false) h = tt
 le-not-above (inf true) (fin t n d) h = tt
 le-not-above (inf false) (inf false) h = tt
 le-not-above (fin s m e) (inf false) h = tt
-le-not-above (fin s m e) (fin t n d) h = not-below s (m * up e * down d) t (n * up d * down e) (read s (m * up e * down d) t (n * up d * down e) h)
+le-not-above (fin s m e) (fin t n d) h =
+    not-below s (m * up e * down d) t (n * up d * down e) (read s (m * up e * down d) t (n * up d * down e) h)
 
 ordered : (a b : ℕ) → (a ≤ b) ⊎ (b ≤ a)
 ordered a b = go (leb a b) (leb→le a b) (nleb→lt a b)
@@ -160,7 +168,8 @@ pub le-itself : (x : Float) → T (not (isNan x)) → T (le x x)
 le-itself x h = elim (le-either x x h h) [ inl p ↦ p | inr q ↦ q ]
 
 -- two stretches of which neither begins past the other's end have a number in common
-pub common : (l h l' h' : Float) → T (le l h) → T (le l' h') → T (le l h') → T (le l' h) → (x : Float) × (T (le l x) × T (le x h) × T (le l' x) × T (le x h'))
+pub common : (l h l' h' : Float) → T (le l h) → T (le l' h') → T (le l h') → T (le l' h)
+    → (x : Float) × (T (le l x) × T (le x h) × T (le l' x) × T (le x h'))
 common l h l' h' p p' q q' =
     elim (le-either l l' (first-known l h p) (first-known l' h' p')) [
       | inl e ↦ (l', (e, q', le-itself l' (first-known l' h' p'), p'))

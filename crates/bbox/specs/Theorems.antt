@@ -21,7 +21,8 @@ use Rattle.bbox.specs.Rust as rust
 -- The Rust's tests, in its order, are the definitions.
 pub rust-contains-lnglat : (b : BBox) (p : LngLat) → rust.contains_lnglat b p ≡ containsPoint b p
 rust-contains-lnglat b p =
-    laws.point-tests (crosses b) (atMost (b .west) (p .lng)) (atMost (p .lng) (b .east)) (atMost (b .south) (p .lat)) (atMost (p .lat) (b .north))
+    laws.point-tests (crosses b) (atMost (b .west) (p .lng)) (atMost (p .lng) (b .east)) (atMost (b .south) (p .lat))
+    (atMost (p .lat) (b .north))
 
 pub rust-contains-bbox : (a b : BBox) → rust.contains_bbox a b ≡ containsBox a b
 rust-contains-bbox a b =
@@ -40,7 +41,8 @@ abbrev pub hasNan : BBox → Bool
 hasNan b = isNan (b .west) || isNan (b .south) || isNan (b .east) || isNan (b .north)
 
 module _ (b : BBox) where
-  no-nan : T (not (isNan (b .west))) → T (not (isNan (b .south))) → T (not (isNan (b .east))) → T (not (isNan (b .north))) → T (not (hasNan b))
+  no-nan : T (not (isNan (b .west))) → T (not (isNan (b .south))) → T (not (isNan (b .east))) → T (not (isNan (b .north)))
+      → T (not (hasNan b))
   no-nan = laws.none-of-four (isNan (b .west)) (isNan (b .south)) (isNan (b .east)) (isNan (b .north))
 
   no-nan-crossing : T (crosses b) → T (not (isNan (b .south))) → T (not (isNan (b .north))) → T (not (hasNan b))
@@ -54,7 +56,8 @@ point-passed : {A : Type 0} (b : BBox) (p : LngLat)
     → (T (crosses b) → T (atMost (p .lng) (b .east)) → T (atMost (b .south) (p .lat)) → T (atMost (p .lat) (b .north)) → A)
     → (T (atMost (b .west) (p .lng)) → T (atMost (p .lng) (b .east)) → T (atMost (b .south) (p .lat)) → T (atMost (p .lat) (b .north)) → A)
     → T (containsPoint b p) → A
-point-passed b p = laws.in-box (crosses b) (atMost (b .west) (p .lng)) (atMost (p .lng) (b .east)) (atMost (b .south) (p .lat)) (atMost (p .lat) (b .north))
+point-passed b p = laws.in-box (crosses b) (atMost (b .west) (p .lng)) (atMost (p .lng) (b .east)) (atMost (b .south) (p .lat))
+    (atMost (p .lat) (b .north))
 
 -- A point with a NaN coordinate is in no box.
 pub nan-point-is-nowhere : (b : BBox) (p : LngLat) → T (isNan (p .lng) || isNan (p .lat)) → T (not (containsPoint b p))
@@ -74,7 +77,8 @@ nan-edge-does-not-cross b =
     laws.rules-out (isNan (b .west) || isNan (b .east)) (crosses b)
     (λ c.
     let backwards = order.lt-le (b .east) (b .west) c in
-    laws.neither (isNan (b .west)) (isNan (b .east)) (order.second-known (b .east) (b .west) backwards) (order.first-known (b .east) (b .west) backwards))
+    laws.neither (isNan (b .west)) (isNan (b .east)) (order.second-known (b .east) (b .west) backwards)
+    (order.first-known (b .east) (b .west) backwards))
 
 -- A box with a NaN edge contains no point,
 pub nan-edge-contains-no-point : (b : BBox) (p : LngLat) → T (hasNan b) → T (not (containsPoint b p))
@@ -142,14 +146,17 @@ nan-edge-is-not-contained a b u h =
     subst (λ (t : Bool). T (not t)) (within-is-contained b a u) (nan-edge-is-not-within b a (laws.left (hasNan b) (hasNan a) h))
 
 -- A box that contains another contains its points, unless the other one alone crosses.
-pub contains-its-points : (a b : BBox) (p : LngLat) → T (crosses a || not (crosses b)) → T (containsBox a b) → T (containsPoint b p) → T (containsPoint a p)
+pub contains-its-points : (a b : BBox) (p : LngLat) → T (crosses a || not (crosses b)) → T (containsBox a b) → T (containsPoint b p)
+    → T (containsPoint a p)
 contains-its-points a b p o h k =
     let lngs = cond (crosses a && not (crosses b)) (lngsInPart a b) (lngsInside a b) in
     let lats = and-r lngs (latsInside a b) h in
     let lat = and-r (lngInside b (p .lng)) (latInside b (p .lat)) k in
     and-i (lngInside a (p .lng)) (latInside a (p .lat))
-    (laws.lng-through (crosses a) (crosses b) (atMost (a .west) (b .west)) (atMost (b .east) (a .east)) (atMost (b .west) (p .lng)) (atMost (p .lng) (b .east))
-    (atMost (a .west) (p .lng)) (atMost (p .lng) (a .east)) (order.le-through (a .west) (b .west) (p .lng)) (order.le-through (p .lng) (b .east) (a .east)) o
+    (laws.lng-through (crosses a) (crosses b) (atMost (a .west) (b .west)) (atMost (b .east) (a .east)) (atMost (b .west) (p .lng))
+    (atMost (p .lng) (b .east))
+    (atMost (a .west) (p .lng)) (atMost (p .lng) (a .east)) (order.le-through (a .west) (b .west) (p .lng))
+    (order.le-through (p .lng) (b .east) (a .east)) o
     (and-l lngs (latsInside a b) h) (and-l (lngInside b (p .lng)) (latInside b (p .lat)) k))
     (and-i (atMost (a .south) (p .lat)) (atMost (p .lat) (a .north))
     (order.le-through (a .south) (b .south) (p .lat) (and-l (atMost (a .south) (b .south)) (atMost (b .north) (a .north)) lats)
@@ -169,10 +176,13 @@ contains-a-box-that-goes-round = tt
 
 -- `intersects` is symmetric.
 pub meets-both-ways : (a b : BBox) → meets a b ≡ meets b a
-meets-both-ways a b = laws.pairs-swap (atMost (a .west) (b .east)) (atMost (b .west) (a .east)) (atMost (a .south) (b .north)) (atMost (b .south) (a .north))
+meets-both-ways a b =
+    laws.pairs-swap (atMost (a .west) (b .east)) (atMost (b .west) (a .east)) (atMost (a .south) (b .north))
+    (atMost (b .south) (a .north))
 
 -- Boxes that do not cross and share a point meet;
-pub sharing-boxes-meet : (a b : BBox) (p : LngLat) → T (not (crosses a)) → T (not (crosses b)) → T (containsPoint a p) → T (containsPoint b p) → T (meets a b)
+pub sharing-boxes-meet : (a b : BBox) (p : LngLat) → T (not (crosses a)) → T (not (crosses b)) → T (containsPoint a p)
+    → T (containsPoint b p) → T (meets a b)
 sharing-boxes-meet a b p ha hb ia ib =
     passed a ha (λ w e s n. passed b hb
     (λ w' e' s' n'. and-i (atMost (a .west) (b .east) && atMost (b .west) (a .east))
@@ -183,15 +193,18 @@ sharing-boxes-meet a b p ha hb ia ib =
     (order.le-through (b .south) (p .lat) (a .north) s' n))) ib) ia
   where
     passed : {A : Type 0} (c : BBox) → T (not (crosses c))
-        → (T (atMost (c .west) (p .lng)) → T (atMost (p .lng) (c .east)) → T (atMost (c .south) (p .lat)) → T (atMost (p .lat) (c .north)) → A)
+        → (T (atMost (c .west) (p .lng)) → T (atMost (p .lng) (c .east)) → T (atMost (c .south) (p .lat)) → T (atMost (p .lat) (c .north))
+        → A)
         → T (containsPoint c p) → A
-    passed c = laws.out-of-upright (crosses c) (atMost (c .west) (p .lng)) (atMost (p .lng) (c .east)) (atMost (c .south) (p .lat)) (atMost (p .lat) (c .north))
+    passed c = laws.out-of-upright (crosses c) (atMost (c .west) (p .lng)) (atMost (p .lng) (c .east)) (atMost (c .south) (p .lat))
+        (atMost (p .lat) (c .north))
 
 -- and boxes that meet share a point, if the edges of each are in order.
 abbrev pub upright : BBox → Bool
 upright b = atMost (b .west) (b .east) && atMost (b .south) (b .north)
 
-pub meeting-boxes-share : (a b : BBox) → T (upright a) → T (upright b) → T (meets a b) → (p : LngLat) × T (containsPoint a p && containsPoint b p)
+pub meeting-boxes-share : (a b : BBox) → T (upright a) → T (upright b) → T (meets a b)
+    → (p : LngLat) × T (containsPoint a p && containsPoint b p)
 meeting-boxes-share a b ha hb =
     laws.all-four (atMost (a .west) (b .east)) (atMost (b .west) (a .east)) (atMost (a .south) (b .north)) (atMost (b .south) (a .north))
     (λ w e s n.
@@ -213,7 +226,8 @@ meeting-boxes-share a b ha hb =
         → T (atMost (c .west) (p .lng)) → T (atMost (p .lng) (c .east)) → T (atMost (c .south) (p .lat)) → T (atMost (p .lat) (c .north))
         → T (containsPoint c p)
     holds c h p =
-        laws.in-upright (crosses c) (atMost (c .west) (p .lng)) (atMost (p .lng) (c .east)) (atMost (c .south) (p .lat)) (atMost (p .lat) (c .north))
+        laws.in-upright (crosses c) (atMost (c .west) (p .lng)) (atMost (p .lng) (c .east)) (atMost (c .south) (p .lat))
+        (atMost (p .lat) (c .north))
         (order.le-not-above (c .west) (c .east) (lngs c h))
 
 -- ---- The parts of a box
@@ -271,5 +285,12 @@ pub parts-contain-its-boxes : (a b : BBox) → T (onMap a) → T (not (crosses b
     → anyBox (parts a) (λ q. containsBox q b) ≡ containsBox a b
 parts-contain-its-boxes a b h u l r =
     by-parts a (λ q. containsBox q b)
-    (λ e. rw (uncrossed-first a h, uncrossed-second a h, is-true (atMost (b .east) mapEast) r, is-true (atMost mapWest (b .west)) l, e, is-false (crosses b) u)
+    (λ e. rw (
+      uncrossed-first a h,
+      uncrossed-second a h,
+      is-true (atMost (b .east) mapEast) r,
+      is-true (atMost mapWest (b .west)) l,
+      e,
+      is-false (crosses b) u,
+    )
     (laws.in-halves (atMost (a .west) (b .west)) (atMost (b .east) (a .east)) (latsInside a b)))

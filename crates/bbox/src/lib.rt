@@ -64,7 +64,8 @@ impl BBox {
         }
     }
 
-    // Whether the other box's edges lie inside this one's; where only this one crosses the antimeridian, from its west on or up to its east.
+    // Whether the other box's edges lie inside this one's; where only this one crosses the antimeridian, from its west on or up to its
+    // east.
     pub fn contains_bbox(self, other: BBox) -> bool
         ensures { λ r. ⌜ r ≡ containsBox self other ⌝ }
     {

@@ -55,7 +55,8 @@ bit-complement (suc w) n zero h l =
 bit-complement (suc w) n (suc i) h l =
     let h : n < 2 ^ w * 2 = rw pow-suc at h in
     let half : (2 ^ w * 2 - 1 - n) / 2 ≡ 2 ^ w - 1 - n / 2 = omega arith in
-    rw (pow-suc 2 w, ← one-add i, ← bit-shift (2 ^ w * 2 - 1 - n) 1 i, ← bit-shift n 1 i, half) (bit-complement w (n / 2) i (omega arith) (omega arith))
+    rw (pow-suc 2 w, ← one-add i, ← bit-shift (2 ^ w * 2 - 1 - n) 1 i, ← bit-shift n 1 i, half)
+    (bit-complement w (n / 2) i (omega arith) (omega arith))
 
 -- a number under the mask of one bit
 pub bit-masked : (n i : ℕ) → bitAnd n (2 ^ i) ≡ bit n i * 2 ^ i

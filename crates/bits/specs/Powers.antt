@@ -9,7 +9,8 @@ pub pow-within : (k w : ℕ) → k < w → 2 ^ k % 2 ^ w ≡ 2 ^ k
 pow-within k w h = mod-eq-of-lt (pow-lt h)
 
 pub pow-past : (k w : ℕ) → w ≤ k → 2 ^ k % 2 ^ w ≡ 0
-pow-past k w h = ap (λ (n : ℕ). 2 ^ n % 2 ^ w) (sym (sub-add-cancel h)) ∙ (ap (λ (n : ℕ). n % 2 ^ w) (pow-add 2 (k - w) w) ∙ mul-mod-left (2 ^ (k - w)) (2 ^ w))
+pow-past k w h = ap (λ (n : ℕ). 2 ^ n % 2 ^ w) (sym (sub-add-cancel h))
+    ∙ (ap (λ (n : ℕ). n % 2 ^ w) (pow-add 2 (k - w) w) ∙ mul-mod-left (2 ^ (k - w)) (2 ^ w))
 
 -- what is shifted down and up again still fits, and leaves the low bits
 pub high-part : (n k w : ℕ) → n < 2 ^ w → n / 2 ^ k * 2 ^ k % 2 ^ w ≡ n / 2 ^ k * 2 ^ k

@@ -32,7 +32,8 @@ Beside [] (k ∷ ks) = ⊥
 Beside (r ∷ rs) [] = ⊥
 Beside (r ∷ rs) (k ∷ ks) = Agree r k × Beside rs ks
 
-beside-more : (rs : List (Lent ℕ)) (ks : List Kept) {r : Lent ℕ} {k : Kept} → Beside rs ks → Agree r k → Beside (rs ++ (r ∷ [])) (ks ++ (k ∷ []))
+beside-more : (rs : List (Lent ℕ)) (ks : List Kept) {r : Lent ℕ} {k : Kept} → Beside rs ks → Agree r k
+    → Beside (rs ++ (r ∷ [])) (ks ++ (k ∷ []))
 beside-more [] [] b a = (a, tt)
 beside-more [] (k ∷ ks) b a = absurd b
 beside-more (r ∷ rs) [] b a = absurd b
@@ -78,12 +79,14 @@ module _ (rs : List (Lent ℕ)) (ks : List Kept) (b : Beside rs ks) where
   abbrev refused : Operation → List ℕ → ℕ
   refused asked memory = refusalOf set list (record { asked = asked; places = length memory })
 
-  agree : (asked : Operation) (memory : List ℕ) → Agree (performed (handedIn rs) asked memory) (keep (refused asked memory) (setOf set asked))
+  agree : (asked : Operation) (memory : List ℕ)
+      → Agree (performed (handedIn rs) asked memory) (keep (refused asked memory) (setOf set asked))
   unfolding placesRefusal pairPlacesRefusal
   agree (settling a) memory =
       rw (same-entries rs ks b a)
       (agree-listed (refused (settling a) memory) (list a) (entriesInOrder (simplified maxZoom 0 (listed (list a)))) memory (set a)
-      (λ e. simplify-entries (list a) (accepted-entries (list a) (else-zero _ _ e .0)) ∙ settled-same (groundOf (list a)) (set a) (same-set rs ks b a)))
+      (λ e. simplify-entries (list a) (accepted-entries (list a) (else-zero _ _ e .0))
+      ∙ settled-same (groundOf (list a)) (set a) (same-set rs ks b a)))
   agree (union p q) memory =
       rw (same-entries rs ks b p, same-entries rs ks b q)
       (agree-listed (refused (union p q) memory) (list p ++ list q) (unionEntries (list p) (list q)) memory (setOf set (union p q))
@@ -91,7 +94,8 @@ module _ (rs : List (Lent ℕ)) (ks : List Kept) (b : Beside rs ks) where
       (λ X Y i j. ap₂ _||_ (same-set rs ks b p X Y i j) (same-set rs ks b q X Y i j))))
   agree (commonPart p q) memory =
       rw (same-entries rs ks b p, same-entries rs ks b q)
-      (agree-listed (refused (commonPart p q) memory) (list p ++ list q) (commonEntries (list p) (list q)) memory (setOf set (commonPart p q))
+      (agree-listed (refused (commonPart p q) memory) (list p ++ list q) (commonEntries (list p) (list q)) memory
+      (setOf set (commonPart p q))
       (λ e. settled-same (λ X Y. groundOf (list p) X Y && groundOf (list q) X Y) (setOf set (commonPart p q))
       (λ X Y i j. ap₂ _&&_ (same-set rs ks b p X Y i j) (same-set rs ks b q X Y i j))))
   agree (difference p q) memory =

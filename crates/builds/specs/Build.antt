@@ -1,5 +1,5 @@
--- Document 01's build: a list of calls of `simplify` at m = 0, union, common part and difference, each fed lists of the caller's own or answers given
--- earlier in the build; and what comes back of them, by the definitions that the four functions promise.
+-- Document 01's build: a list of calls of `simplify` at m = 0, union, common part and difference, each fed lists of the caller's own
+-- or answers given earlier in the build; and what comes back of them, by the definitions that the four functions promise.
 use mathlib.Core.List.{List, []}
 use Prim.Native.Nat.{ℕ}
 use lib.ListN.{getD}
@@ -32,8 +32,8 @@ Build = List Call
 abbrev pub nothingBack : Lent ℕ
 nothingBack = record { number = 0; value = 0; memory = [] }
 
--- The answer of call i. "A refused call gives no answer": its count is 0. An operand that names a refused call, or none that was made, is no build;
--- here it is read as the empty list, so that nothing has to be assumed.
+-- The answer of call i. "A refused call gives no answer": its count is 0. An operand that names a refused call, or none that was made,
+-- is no build; here it is read as the empty list, so that nothing has to be assumed.
 abbrev pub answerAt : List (Lent ℕ) → ℕ → List ℕ
 answerAt back i = answerOf (getD back i nothingBack)
 

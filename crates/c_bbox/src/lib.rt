@@ -40,7 +40,8 @@ pub fn contains_bbox(
     northern: f64,
     told: &mut u8,
 ) -> u8
-    ensures { λ r. ⌜ answered r (now (told .exit)) ≡ asByte (never (containsBox (box west south east north) (box western southern eastern northern))) ⌝ }
+    ensures { λ r. ⌜ answered r (now (told .exit))
+        ≡ asByte (never (containsBox (box west south east north) (box western southern eastern northern))) ⌝ }
 {
     let area = bbox(west, south, east, north);
     let other = bbox(western, southern, eastern, northern);
@@ -58,7 +59,8 @@ pub fn is_within(
     northern: f64,
     told: &mut u8,
 ) -> u8
-    ensures { λ r. ⌜ answered r (now (told .exit)) ≡ asByte (never (within (box west south east north) (box western southern eastern northern))) ⌝ }
+    ensures { λ r. ⌜ answered r (now (told .exit))
+        ≡ asByte (never (within (box west south east north) (box western southern eastern northern))) ⌝ }
 {
     let area = bbox(west, south, east, north);
     let other = bbox(western, southern, eastern, northern);
@@ -76,7 +78,8 @@ pub fn intersects(
     northern: f64,
     told: &mut u8,
 ) -> u8
-    ensures { λ r. ⌜ answered r (now (told .exit)) ≡ asByte (never (meets (box west south east north) (box western southern eastern northern))) ⌝ }
+    ensures { λ r. ⌜ answered r (now (told .exit))
+        ≡ asByte (never (meets (box west south east north) (box western southern eastern northern))) ⌝ }
 {
     let area = bbox(west, south, east, north);
     let other = bbox(western, southern, eastern, northern);

@@ -53,7 +53,8 @@ pub fn feed(
 }
 
 pub fn finish(line: &[u8; KEPT], len: usize, out: &mut [u8], count: &mut u64) -> u8
-    ensures { λ r. ⌜ answeredIn r (now (count .exit)) (now (out .exit)) ≡ written 0 (said (take len (now (line .entry))) []) (now (out .entry)) ⌝ }
+    ensures { λ r. ⌜ answeredIn r (now (count .exit)) (now (out .exit))
+        ≡ written 0 (said (take len (now (line .entry))) []) (now (out .entry)) ⌝ }
 {
     let answer = form_stream::finish(line, len, out);
     c_give::count(answer, count)

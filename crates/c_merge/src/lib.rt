@@ -55,7 +55,8 @@ pub fn common_part(a: &[u64], b: &[u64], out: &mut [u64], count: &mut u64) -> u8
 }
 
 pub fn difference(a: &[u64], b: &[u64], out: &mut [u64], count: &mut u64) -> u8
-    ensures { λ r. ⌜ answeredIn r (now (count .exit)) (now (out .exit)) ≡ differenceOf (now (a .entry)) (now (b .entry)) (now (out .entry)) ⌝ }
+    ensures { λ r. ⌜ answeredIn r (now (count .exit)) (now (out .exit))
+        ≡ differenceOf (now (a .entry)) (now (b .entry)) (now (out .entry)) ⌝ }
 {
     let answer = area::difference(a, b, out);
     c_give::count(answer, count)

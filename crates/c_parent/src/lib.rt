@@ -20,7 +20,8 @@ pub fn iter_parents(
     ty: &mut u32,
     tz: &mut u8,
 ) -> u8
-    ensures { λ r. ⌜ answered r (heldAt (now (count .exit)) (now (tx .exit)) (now (ty .exit)) (now (tz .exit))) ≡ parentsNumbers (iterOf x y z) ⌝ }
+    ensures { λ r. ⌜ answered r (heldAt (now (count .exit)) (now (tx .exit)) (now (ty .exit)) (now (tz .exit)))
+        ≡ parentsNumbers (iterOf x y z) ⌝ }
 {
     match parent::iter_parents(x, y, z) {
         ParentsAnswer::Found(cursor) => {
@@ -50,7 +51,8 @@ pub fn next(
     rz: &mut u8,
 ) -> u8
     ensures { λ r. ⌜ answered r (nextAt (heldAt (now (count .exit)) (now (tx .exit)) (now (ty .exit)) (now (tz .exit)))
-        (heldAt (now (rest .exit)) (now (rx .exit)) (now (ry .exit)) (now (rz .exit)))) ≡ nextNumbers (parentsNextOf (holding held x y z)) ⌝ }
+        (heldAt (now (rest .exit)) (now (rx .exit)) (now (ry .exit)) (now (rz .exit))))
+        ≡ nextNumbers (parentsNextOf (holding held x y z)) ⌝ }
 {
     let current = holding(held, x, y, z);
     let cursor = Parents { current };

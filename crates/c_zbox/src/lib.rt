@@ -50,7 +50,8 @@ pub fn from_tile(
     top: &mut u32,
     bottom: &mut u32,
 ) -> u8
-    ensures { λ r. ⌜ answered r (boxAt (now (bz .exit)) (now (left .exit)) (now (right .exit)) (now (top .exit)) (now (bottom .exit))) ≡ fromTileOf x y z ⌝ }
+    ensures { λ r. ⌜ answered r (boxAt (now (bz .exit)) (now (left .exit)) (now (right .exit)) (now (top .exit)) (now (bottom .exit)))
+        ≡ fromTileOf x y z ⌝ }
 {
     give_box(TileZBox::from_tile(x, y, z), bz, left, right, top, bottom)
 }
@@ -242,7 +243,8 @@ fn give_box(
     top: &mut u32,
     bottom: &mut u32,
 ) -> u8
-    ensures { λ r. ⌜ answered r (boxAt (now (bz .exit)) (now (left .exit)) (now (right .exit)) (now (top .exit)) (now (bottom .exit))) ≡ boxCase answer ⌝ }
+    ensures { λ r. ⌜ answered r (boxAt (now (bz .exit)) (now (left .exit)) (now (right .exit)) (now (top .exit)) (now (bottom .exit)))
+        ≡ boxCase answer ⌝ }
 {
     match answer {
         BoxAnswer::Found(area) => {

@@ -45,7 +45,8 @@ pub fn zvec2zset_rev(zvec: &[u8], zset: &mut u32) -> u8
 }
 
 pub fn zoom_ranges(zset: u32, lows: &mut [u8], highs: &mut [u8], count: &mut u64) -> u8
-    ensures { λ r. ⌜ givenTwo r (now (count .exit)) (now (lows .exit)) (now (highs .exit)) ≡ rangesOf zset (now (lows .entry)) (now (highs .entry)) ⌝ }
+    ensures { λ r. ⌜ givenTwo r (now (count .exit)) (now (lows .exit)) (now (highs .exit))
+        ≡ rangesOf zset (now (lows .entry)) (now (highs .entry)) ⌝ }
 {
     let answer = zoom_ranges::zoom_ranges(zset, lows, highs);
     c_give::count(answer, count)

@@ -41,14 +41,16 @@ pub descend-length : (family : List ℕ) → length family ≡ 4 → (d x y z : 
 unfolding descendants
 descend-length family e zero x y z = refl
 descend-length family e (suc d) x y z =
-    gather-length _ (4 ^ d) family (λ q. descend-length family e d (2 * x + q % 2) (2 * y + q / 2) (suc z)) ∙ rw (e, pow-suc 4 d) (mul-comm 4 (4 ^ d))
+    gather-length _ (4 ^ d) family (λ q. descend-length family e d (2 * x + q % 2) (2 * y + q / 2) (suc z))
+    ∙ rw (e, pow-suc 4 d) (mul-comm 4 (4 ^ d))
 
 pub family-four : (turn : ℕ) → length (familyOf turn) ≡ 4
 family-four zero = refl
 family-four (suc turn) = refl
 
 pub children-length : (turn d x y z : ℕ) → length (entriesOf (descendants (familyOf turn) d x y z)) ≡ 4 ^ d
-children-length turn d x y z = length-map (descendants (familyOf turn) d x y z) _ ∙ descend-length (familyOf turn) (family-four turn) d x y z
+children-length turn d x y z =
+    length-map (descendants (familyOf turn) d x y z) _ ∙ descend-length (familyOf turn) (family-four turn) d x y z
 
 -- the column and the row of a family's child, as the code computes them
 pub family-place : (turn k : ℕ) → turn < 2 → k < 4
@@ -72,7 +74,8 @@ childEntries turn d x y z q = entriesOf (descendants (familyOf turn) d (2 * x + 
 pub child-length : (turn d x y z q : ℕ) → length (childEntries turn d x y z q) ≡ 4 ^ d
 child-length turn d x y z q = children-length turn d (2 * x + q % 2) (2 * y + q / 2) (suc z)
 
-pub children-gathered : (turn d x y z : ℕ) → entriesOf (descendants (familyOf turn) (suc d) x y z) ≡ gather (childEntries turn d x y z) (familyOf turn)
+pub children-gathered : (turn d x y z : ℕ)
+    → entriesOf (descendants (familyOf turn) (suc d) x y z) ≡ gather (childEntries turn d x y z) (familyOf turn)
 unfolding descendants
 children-gathered turn d x y z = entries-gather _ (familyOf turn)
 
@@ -86,7 +89,8 @@ module _ (g : ℕ → List ℕ) (family : List ℕ) (q : ℕ) (each : (i : ℕ) 
   gathered-length : length (gather g (take k family)) ≡ k * q
   gathered-length = gather-length g q (take k family) each ∙ ap (λ (n : ℕ). n * q) (length-take-le k family (omega arith))
 
-  pub quarter-more : take (k * q) (quarters g family q k memory) ++ (g (getD family k 0) ++ drop q (drop (k * q) (quarters g family q k memory)))
+  pub quarter-more : take (k * q) (quarters g family q k memory)
+      ++ (g (getD family k 0) ++ drop q (drop (k * q) (quarters g family q k memory)))
       ≡ quarters g family q (k + 1) memory
   quarter-more =
       rw (
@@ -130,7 +134,8 @@ quarter-part out start q h =
     rw e (length-take-le q (drop start out) (rw length-drop (omega arith)))
 
 -- the list with a quarter given back
-pub quarter-back : (start q : ℕ) (out part : List ℕ) → putMid start (start + q - start) out part ≡ take start out ++ (part ++ drop q (drop start out))
+pub quarter-back : (start q : ℕ) (out part : List ℕ)
+    → putMid start (start + q - start) out part ≡ take start out ++ (part ++ drop q (drop start out))
 quarter-back start q out part = let e : start + q - start ≡ q = omega arith in rw e
 
 pub quarters-length : (g : ℕ → List ℕ) (family : List ℕ) (q : ℕ) → ((i : ℕ) → length (g i) ≡ q)
@@ -168,12 +173,14 @@ module _ (turn d x y z : ℕ) (memory : List ℕ) {q k : ℕ} {out : List ℕ} (
   pub quarter-written : (part : List ℕ) → k < 4 → part ≡ childEntries turn d x y z (getD (familyOf turn) k 0)
       → putMid (k * q) (k * q + q - k * q) out part ≡ quarters (childEntries turn d x y z) (familyOf turn) q (k + 1) memory
   quarter-written part h e =
-      quarter-back (k * q) q out part ∙ rw (held, e) (quarter-more (childEntries turn d x y z) (familyOf turn) q each k (rw (family-four turn) h) memory)
+      quarter-back (k * q) q out part
+      ∙ rw (held, e) (quarter-more (childEntries turn d x y z) (familyOf turn) q each k (rw (family-four turn) h) memory)
 
   pub quarters-done : k ≡ 4 → out ≡ entriesOf (descendants (familyOf turn) (suc d) x y z)
   quarters-done e =
       held ∙ (ap (λ (n : ℕ). quarters (childEntries turn d x y z) (familyOf turn) q n memory) (e ∙ sym (family-four turn))
-      ∙ (quarters-all (childEntries turn d x y z) (familyOf turn) q memory (rw (family-four turn) whole) ∙ sym (children-gathered turn d x y z)))
+      ∙ (quarters-all (childEntries turn d x y z) (familyOf turn) q memory (rw (family-four turn) whole)
+      ∙ sym (children-gathered turn d x y z)))
 
 pub child-too-deep : {z : ℕ} (x y target : ℕ) → maxZoom < z → (1 when ltb maxZoom target else tileRefusal x y z) ≡ 1
 child-too-deep {z} x y target h = rw (too-deep {z = z} x y h) (pick (ltb maxZoom target))

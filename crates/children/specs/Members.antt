@@ -68,7 +68,8 @@ pub once-map : {A B : Type 0} (f : A → B) (l : List A) → List·Nodup l → (
     → List·Nodup (map f l)
 once-map f [] o apart = Pairwise·nil
 once-map f (a ∷ l) o apart =
-    once-more (λ m. let s = in-map f l m in once-rest o .0 (Memᴰ·cast (apart a (s .0) (List·Memᴰ·head refl) (List·Memᴰ·tail (s .1)) (s .2)) (s .1)))
+    once-more (λ m. let s = in-map f l m in
+    once-rest o .0 (Memᴰ·cast (apart a (s .0) (List·Memᴰ·head refl) (List·Memᴰ·tail (s .1)) (s .2)) (s .1)))
     (once-map f l (once-rest o .1) (λ b c k m. apart b c (List·Memᴰ·tail k) (List·Memᴰ·tail m)))
 
 -- flattened, in one or in several lists
@@ -77,7 +78,8 @@ unfolding flatMap
 flat-append f [] b = refl
 flat-append f (t ∷ a) b = rw (flat-append f a b, append-assoc)
 
-pub flat-gather : {A B : Type 0} (f : A → List B) (g : ℕ → List A) (qs : List ℕ) → flatMap f (gather g qs) ≡ gather (λ q. flatMap f (g q)) qs
+pub flat-gather : {A B : Type 0} (f : A → List B) (g : ℕ → List A) (qs : List ℕ)
+    → flatMap f (gather g qs) ≡ gather (λ q. flatMap f (g q)) qs
 unfolding flatMap gather
 flat-gather f g [] = refl
 flat-gather f g (q ∷ qs) = rw (flat-append f (g q) (gather g qs), flat-gather f g qs)

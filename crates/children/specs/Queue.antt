@@ -25,11 +25,13 @@ abbrev pub childrenIn : List ℕ → Tile → List Tile
 childrenIn family t = descendants family 1 (t .x) (t .y) (t .z)
 
 -- one zoom deeper: each tile's children in its place
-pub descend-deeper : (family : List ℕ) (d x y z : ℕ) → descendants family (suc d) x y z ≡ flatMap (childrenIn family) (descendants family d x y z)
+pub descend-deeper : (family : List ℕ) (d x y z : ℕ)
+    → descendants family (suc d) x y z ≡ flatMap (childrenIn family) (descendants family d x y z)
 unfolding descendants flatMap
 descend-deeper family zero x y z = sym (append-nil _)
 descend-deeper family (suc d) x y z =
-    gather-same _ _ (λ q. descend-deeper family d (2 * x + q % 2) (2 * y + q / 2) (suc z)) family ∙ sym (flat-gather (childrenIn family) _ family)
+    gather-same _ _ (λ q. descend-deeper family d (2 * x + q % 2) (2 * y + q / 2) (suc z)) family
+    ∙ sym (flat-gather (childrenIn family) _ family)
 
 -- a tile of the front of the queue: it is worked off, and its four children are found
 record Worked (four : Tile → Run (List Tile)) (family : List ℕ) (zoom : ℕ) (t : Tile) : Type 0 where
@@ -113,14 +115,17 @@ module _ (t : Tile) (above : t .z < 29) (on-map : To29 (t .x) (t .y) (t .z)) whe
       let e : n * 2 ≡ 2 * n + 0 = omega arith in
       (fits 32 (n * 2) (omega (arith, side)) ∙ ap returns e, omega (arith, pow-suc 2 (t .z)))
   doubled second n l =
-      let e : n * 2 + 1 ≡ 2 * n + 1 = omega arith in
-      (rw (fits 32 (n * 2) (omega (arith, side)), fits 32 (n * 2 + 1) (omega (arith, side))) (ap returns e), omega (arith, pow-suc 2 (t .z)))
+      let e : n * 2 + 1 ≡ 2 * n + 1 = omega arith in (
+        rw (fits 32 (n * 2) (omega (arith, side)), fits 32 (n * 2 + 1) (omega (arith, side))) (ap returns e),
+        omega (arith, pow-suc 2 (t .z)),
+      )
 
   made : {f g : ℕ → Run ℕ} {i j : ℕ} → Half f i → Half g j → child f g t ≡ returns (tileAt (2 * t .x + i) (2 * t .y + j) (suc (t .z)))
   made p q =
       let c = doubled p (t .x) (on-map .column) in
       let r = doubled q (t .y) (on-map .row) in
-      rw (c .0, r .0, fits 8 (t .z + 1) (omega arith), add-one (t .z)) (new-made _ _ _ (record { zoom = omega arith; column = c .1; row = r .1 }))
+      rw (c .0, r .0, fits 8 (t .z + 1) (omega arith), add-one (t .z))
+      (new-made _ _ _ (record { zoom = omega arith; column = c .1; row = r .1 }))
 
 pub rust-clockwise : FindsChildren rustClockwise clockwise
 unfolding descendants gather vec

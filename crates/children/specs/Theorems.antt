@@ -60,7 +60,8 @@ pub each-family-in-its-order : (family : List ℕ) (d x y z : ℕ)
 each-family-in-its-order = descend-deeper
 
 -- "A target zoom ≤ z gives the tile itself"
-pub a-target-above-gives-the-tile : (family : List ℕ) (x y z target : ℕ) → target ≤ z → descendants family (target - z) x y z ≡ tileAt x y z ∷ []
+pub a-target-above-gives-the-tile : (family : List ℕ) (x y z target : ℕ) → target ≤ z
+    → descendants family (target - z) x y z ≡ tileAt x y z ∷ []
 unfolding descendants
 a-target-above-gives-the-tile family x y z target h = let e : target - z ≡ 0 = omega arith in rw e
 
@@ -72,7 +73,8 @@ unfolding descendants
 each-child-fills-a-quarter family e d x y z k h = gather-part _ (4 ^ d) (λ q. descend-length family e d _ _ _) family k (rw e h)
 
 -- the descendants are the tiles that lie d zooms under the tile, all of them
-pub the-descendants : (family : List ℕ) → IsFamily family → (d x y z : ℕ) (t : Tile) → List·Memᴰ t (descendants family d x y z) ↔ Under d x y z t
+pub the-descendants : (family : List ℕ) → IsFamily family → (d x y z : ℕ) (t : Tile)
+    → List·Memᴰ t (descendants family d x y z) ↔ Under d x y z t
 the-descendants family f d x y z t =
     (descend-under family (λ q m. f .digits q .0 m) d x y z t, under-descend family (λ q h. f .digits q .1 h) d x y z t)
 
@@ -102,7 +104,8 @@ entries-lead-back {t = t} m h u =
 pub each-entry-once : (family : List ℕ) → IsFamily family → (d : ℕ) {x y z : ℕ} → OnMap x y z → z + d ≤ maxZoom → (i j : ℕ)
     → i < length (entriesOf (descendants family d x y z)) → j < length (entriesOf (descendants family d x y z))
     → getD (entriesOf (descendants family d x y z)) i 0 ≡ getD (entriesOf (descendants family d x y z)) j 0 → i ≡ j
-each-entry-once family f d {x} {y} {z} m h i j = once-at _ (once-map _ (descendants family d x y z) (descend-once family f d x y z) same) i j 0
+each-entry-once family f d {x} {y} {z} m h i j =
+    once-at _ (once-map _ (descendants family d x y z) (descend-once family f d x y z) same) i j 0
   where
     back : (t : Tile) → List·Memᴰ t (descendants family d x y z) → entryTile (entryOf (t .x) (t .y) (t .z)) ≡ t
     back t k = entries-lead-back m h (the-descendants family f d x y z t .0 k) .1
@@ -116,17 +119,25 @@ pub a-target-too-deep : (family : List ℕ) (x y z target : ℕ) (memory : List 
     → childrenOf family x y z target memory ≡ record { number = 1; value = 0; memory = memory }
 a-target-too-deep family x y z target memory h = rw (lt-ltb _ _ h)
 
--- a call needs as many places as the tile has descendants at the target zoom: with them it writes them all, and says how many; with fewer it is 12
-module _ (family : List ℕ) (size : length family ≡ 4) {x y z : ℕ} (m : OnMap x y z) (target : ℕ) (h : target ≤ maxZoom) (memory : List ℕ) where
+-- a call needs as many places as the tile has descendants at the target zoom: with them it writes them all, and says how many; with
+-- fewer it is 12
+module _ (family : List ℕ) (size : length family ≡ 4) {x y z : ℕ} (m : OnMap x y z) (target : ℕ) (h : target ≤ maxZoom)
+    (memory : List ℕ) where
   count : length (entriesOf (descendants family (target - z) x y z)) ≡ 4 ^ (target - z)
   count = length-map (descendants family (target - z) x y z) _ ∙ descend-length family size (target - z) x y z
 
   pub all-are-written : 4 ^ (target - z) ≤ length memory
       → childrenOf family x y z target memory
-      ≡ record { number = 0; value = 4 ^ (target - z); memory = entriesOf (descendants family (target - z) x y z) ++ drop (4 ^ (target - z)) memory }
+      ≡ record {
+        number = 0;
+        value = 4 ^ (target - z);
+        memory =
+            entriesOf (descendants family (target - z) x y z) ++ drop (4 ^ (target - z)) memory;
+      }
   all-are-written l = rw (le-ltb _ _ h, on-map-accepted m, count, le-ltb _ _ l, count)
 
-  pub memory-too-short : length memory < 4 ^ (target - z) → childrenOf family x y z target memory ≡ record { number = 12; value = 0; memory = memory }
+  pub memory-too-short : length memory < 4 ^ (target - z)
+      → childrenOf family x y z target memory ≡ record { number = 12; value = 0; memory = memory }
   memory-too-short l = rw (le-ltb _ _ h, on-map-accepted m, count, lt-ltb _ _ l)
 
 -- The Rust is held to tiles of zoom 0 to 29 and targets to 29. On them no check fails, and after as many turns as the zooms between have
@@ -146,5 +157,6 @@ module _ (x y z : ℕ) (zoom : OptionU8) (turns : ℕ) (on-map : To29 x y z)
   rust-children-zorder = descended zOrder z-order-is-a-family refl rustZOrder rust-z-order
 
 -- `children1_zorder`: the four tiles that the Rust names
-pub rust-children1-zorder : (x y z : ℕ) → To29 x y z → z + 1 ≤ 29 → rustZOrder (tileAt x y z) ≡ returns (descendants zOrder (z + 1 - z) x y z)
+pub rust-children1-zorder : (x y z : ℕ) → To29 x y z → z + 1 ≤ 29
+    → rustZOrder (tileAt x y z) ≡ returns (descendants zOrder (z + 1 - z) x y z)
 rust-children1-zorder x y z m h = let e : z + 1 - z ≡ 1 = omega arith in rw e (rust-z-order (tileAt x y z) (omega arith) m)

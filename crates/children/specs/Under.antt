@@ -1,7 +1,8 @@
 -- The tiles that lie under a tile, and that a list of descendants has each of them once.
 use mathlib.Core.Path.{_≡_, refl, sym, ap, _∙_}
 use mathlib.Core.Logic.{_↔_}
-use mathlib.Core.List.{List, [], _∷_, List·Memᴰ, List·Memᴰ·head, List·Memᴰ·tail, List·Memᴰ·not-nil, List·Memᴰ·eq-of-singleton, List·Nodup, Pairwise·nil}
+use mathlib.Core.List.{List, [], _∷_, List·Memᴰ, List·Memᴰ·head, List·Memᴰ·tail, List·Memᴰ·not-nil, List·Memᴰ·eq-of-singleton, List·Nodup}
+use mathlib.Core.List.{Pairwise·nil}
 use Prim.Native.Nat.{ℕ, zero, suc, _+_, _*_, _/_, _%_, _^_, _≤_, _<_}
 use native.Mathlib.Decide.{decLe}
 use native.Mathlib.Nat.{div-one, div-lt-iff-lt-mul}
@@ -40,7 +41,12 @@ descend-under family small (suc d) x y z t m =
     let q = s .0 in
     let l = small q (s .1) in
     let u = descend-under family small d (2 * x + q % 2) (2 * y + q / 2) (suc z) t (s .2) in
-    record { zoom = omega (arith, u .zoom); column = one-more (t .x) d ∙ omega (arith, u .column); row = one-more (t .y) d ∙ omega (arith, u .row) }
+    record {
+      zoom = omega (arith, u .zoom);
+      column = one-more (t .x) d ∙ omega (arith, u .column);
+      row =
+          one-more (t .y) d ∙ omega (arith, u .row);
+    }
 
 pub under-descend : (family : List ℕ) → ((q : ℕ) → q < 4 → List·Memᴰ q family) → (d x y z : ℕ) (t : Tile) → Under d x y z t
     → List·Memᴰ t (descendants family d x y z)
@@ -78,7 +84,8 @@ unfolding descendants
 descend-once family f zero x y z = once-more List·Memᴰ·not-nil Pairwise·nil
 descend-once family f (suc d) x y z =
     once-gather _ family (f .once) (λ q. descend-once family f d (2 * x + q % 2) (2 * y + q / 2) (suc z))
-    (λ t q r a b k m. one-child d x y (suc z) q r t (small q a) (small r b) (descend-under family small d _ _ _ t k) (descend-under family small d _ _ _ t m))
+    (λ t q r a b k m. one-child d x y (suc z) q r t (small q a) (small r b) (descend-under family small d _ _ _ t k)
+    (descend-under family small d _ _ _ t m))
   where
     small : (q : ℕ) → List·Memᴰ q family → q < 4
     small q m = f .digits q .0 m
@@ -92,7 +99,8 @@ descend-zoom family (suc d) x y z t m = let s = in-gather _ family m in descend-
 pub in-either-order : (a b : ℕ) → 1 < a → a < 4 → 1 < b → b < 4 → (a ≡ b → ⊥) → IsFamily (0 ∷ 1 ∷ a ∷ b ∷ [])
 in-either-order a b la sa lb sb n = record {
   digits = λ q. (in-rest (omega arith) (in-rest (omega arith) (in-rest sa (in-rest sb (λ m. absurd (List·Memᴰ·not-nil m))))), there q);
-  once = once-more (not-first 0 1 (λ e. omega arith) (not-first 0 a (λ e. omega arith) (not-first 0 b (λ e. omega arith) List·Memᴰ·not-nil)))
+  once = once-more (not-first 0 1 (λ e. omega arith)
+      (not-first 0 a (λ e. omega arith) (not-first 0 b (λ e. omega arith) List·Memᴰ·not-nil)))
       (once-more (not-first 1 a (λ e. omega arith) (not-first 1 b (λ e. omega arith) List·Memᴰ·not-nil))
       (once-more (not-first a b n List·Memᴰ·not-nil) (once-more List·Memᴰ·not-nil Pairwise·nil)));
 }

@@ -10,7 +10,8 @@ use lib.Seq.{getD-set-same, getD-set-other}
 use Rattle.bits.specs.Tests.{and-parts, getD-in}
 use Rattle.quadtree.specs.Numbers.{locationTile}
 use Rattle.sort.specs.At.{in-at, taken-at, at-taken}
-use Rattle.quadtree.specs.Locations.{lowOf, startOf, endOf, low-pos, low-below, Lie, holding, held, before, after, lies, held-run, IsLocation, tiles, Runs}
+use Rattle.quadtree.specs.Locations.{lowOf, startOf, endOf, low-pos, low-below, Lie, holding, held, before, after, lies, held-run}
+use Rattle.quadtree.specs.Locations.{IsLocation, tiles, Runs}
 use Rattle.sort.specs.Laws.{eq-or-ne, le-or-lt}
 use Rattle.tile.specs.declared.Tile.{Tile}
 use Rattle.tile_list.specs.Laws.{named-by, names}
@@ -91,7 +92,8 @@ module _ {l : List ℕ} (r : Runs l) where
       omega (arith, r .rise i j h k, u .1, low-pos (tiles l j), low-below (tiles l j))
 
 -- tiles that hold each other are one location
-one-location : {p q : ℕ} → IsLocation p → IsLocation q → Holds (locationTile p) (locationTile q) → Holds (locationTile q) (locationTile p) → p ≡ q
+one-location : {p q : ℕ} → IsLocation p → IsLocation q → Holds (locationTile p) (locationTile q) → Holds (locationTile q) (locationTile p)
+    → p ≡ q
 one-location {p} {q} s t h k =
     let u = held-run h (t .of-map) in
     let v = held-run k (s .of-map) in
@@ -149,7 +151,8 @@ module _ {a b out : List ℕ} {i j n : ℕ} (ra : Runs a) (rb : Runs b) (w : Wal
     one = record {
       within = omega arith;
       kept = λ k m lt g e. ⊎-elim (λ q. rw q (new out n v h)) (λ f. still out n v h (w .one .kept k m (omega arith) g e)) (eq-or-ne k i);
-      ahead = λ k m lt le g e. ⊎-elim (λ q. ahead-here k m q le g e) (λ f. still out n v h (w .one .ahead k m (omega arith) le g e)) (eq-or-ne k i);
+      ahead = λ k m lt le g e. ⊎-elim (λ q. ahead-here k m q le g e) (λ f. still out n v h (w .one .ahead k m (omega arith) le g e))
+          (eq-or-ne k i);
     };
     other = record {
       within = w .other .within;
@@ -168,7 +171,8 @@ module _ {a b out : List ℕ} {i j n : ℕ} (ra : Runs a) (rb : Runs b) (w : Wal
       ahead-here : (k m : ℕ) → k ≡ i → j ≤ m → m < length b → Holds (tiles a k) (tiles b m) → Written (set out n v) (n + 1) (getD b m 0)
       ahead-here k m q le g e =
           ⊎-elim
-          (λ s. subst (λ (u : ℕ). Written (set out n v) (n + 1) u) (one-location (ra .each i ha) (rb .each m g) (rw q at e) (rw s at in')) (new out n v h))
+          (λ s. subst (λ (u : ℕ). Written (set out n v) (n + 1) u) (one-location (ra .each i ha) (rb .each m g) (rw q at e) (rw s at in'))
+          (new out n v h))
           (λ f. absurd (not-inside rb j m (omega arith) g (holds-trans in' (rw q at e))))
           (eq-or-ne j m)
 
@@ -199,11 +203,13 @@ lies-location : {a b : List ℕ} {v : ℕ} → Runs a → Lies a b v → IsLocat
 lies-location ra l = rw (l .is) at (ra .each (l .at) (l .in-a))
 
 -- by index and by tile: t stands in a and lies in a tile of b
-lies-held : {a b : List ℕ} {v : ℕ} (t : Tile) → locationTile v ≡ t → Lies a b v → named locationTile a t && heldBy (named locationTile b) t ≡ true
+lies-held : {a b : List ℕ} {v : ℕ} (t : Tile) → locationTile v ≡ t → Lies a b v
+    → named locationTile a t && heldBy (named locationTile b) t ≡ true
 lies-held {a = a} {b = b} t e l =
     let q = tiles b (l .holder) in
     let h : Holds q t = rw e at (l .holds) in
-    let stands : named locationTile a t ≡ true = names locationTile a (getD a (l .at) 0) t (getD-in a (l .at) 0 (l .in-a)) (ap locationTile (l .is) ∙ e) in
+    let stands : named locationTile a t ≡ true =
+    names locationTile a (getD a (l .at) 0) t (getD-in a (l .at) 0 (l .in-a)) (ap locationTile (l .is) ∙ e) in
     let above : heldBy (named locationTile b) t ≡ true =
     any-below-in (suc (t .z)) (λ s. named locationTile b (ancestor t s)) (q .z) (omega (arith, h .above))
     (names locationTile b (getD b (l .holder) 0) (ancestor t (q .z)) (getD-in b (l .holder) 0 (l .in-b)) (holder-is-ancestor h)) in
@@ -222,7 +228,8 @@ held-lies a b t e =
     let over : tiles b (m .0) ≡ ancestor t (s .0) = ap locationTile (m .2) ∙ v .2 in
     (k .0, m .0, k .1, m .1, rw (is, over) (ancestor-holds t (s .0) (omega (arith, s .1))), is)
 
-module _ {a b out : List ℕ} {i j n : ℕ} (ra : Runs a) (rb : Runs b) (w : Walked a b out i j n) (room : length a + length b ≤ length out) where
+module _ {a b out : List ℕ} {i j n : ℕ} (ra : Runs a) (rb : Runs b) (w : Walked a b out i j n)
+    (room : length a + length b ≤ length out) where
   within : n ≤ length out
   within = omega (arith, w .room, w .one .within, w .other .within)
 

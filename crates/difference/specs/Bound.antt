@@ -63,7 +63,8 @@ child-too : (t g : Tile) (i j : ℕ) → i < 2 → j < 2 → holds (child t i j)
 child-too t g i j x y e = true-holds (holds-trans (child-held t i j x y) (holds-true (child t i j) g e))
 
 held-by-children : (t : Tile) (gone : List Tile)
-    → countOf (holds (child t 0 0)) gone + (countOf (holds (child t 1 0)) gone + (countOf (holds (child t 0 1)) gone + countOf (holds (child t 1 1)) gone))
+    → countOf (holds (child t 0 0)) gone +
+    (countOf (holds (child t 1 0)) gone + (countOf (holds (child t 0 1)) gone + countOf (holds (child t 1 1)) gone))
     ≤ countOf (holds t) gone
 unfolding countOf
 held-by-children t [] = omega arith
@@ -89,7 +90,8 @@ left-length zero gone t = pick (anyOf (λ g. holds g t) gone)
     pick : (b : Bool) → length (cond b [] (t ∷ [])) ≤ 1 + 3 * (0 * countOf (holds t) gone)
     pick true = omega arith
     pick false = omega arith
-left-length (suc d) gone t = pick (anyOf (λ g. holds g t) gone) (anyOf (holds t) gone) (some-counted (holds t) gone) (λ i j. left-length d gone (child t i j))
+left-length (suc d) gone t =
+    pick (anyOf (λ g. holds g t) gone) (anyOf (holds t) gone) (some-counted (holds t) gone) (λ i j. left-length d gone (child t i j))
   where
     n : ℕ → ℕ → ℕ
     n i j = countOf (holds (child t i j)) gone
@@ -106,7 +108,8 @@ left-length (suc d) gone t = pick (anyOf (λ g. holds g t) gone) (anyOf (holds t
         → length (cond b [] (cond c (ofFour (leftOf d gone) t) (t ∷ []))) ≤ 1 + 3 * (suc d * countOf (holds t) gone)
     pick true c h below = omega arith
     pick false false h below = omega arith
-    pick false true h below = omega (arith, children below, h refl, mul-le-mul-left d (held-by-children t gone), suc-mul d (countOf (holds t) gone))
+    pick false true h below =
+        omega (arith, children below, h refl, mul-le-mul-left d (held-by-children t gone), suc-mul d (countOf (holds t) gone))
 
 -- how many tiles of a list hold one of another list, each as often as it does
 unfoldable heldBy : List Tile → List Tile → ℕ
@@ -143,7 +146,8 @@ count-none p (k ∷ l) h = pick (p k) (h 0 (omega arith)) (count-none p l (λ i 
     pick true f e = absurd (f refl)
     pick false f e = omega arith
 
-count-once : (p : ℕ → Bool) (l : List ℕ) → ((i j : ℕ) → i < j → j < length l → p (getD l i 0) ≡ true → p (getD l j 0) ≡ true → ⊥) → countOf p l ≤ 1
+count-once : (p : ℕ → Bool) (l : List ℕ) → ((i j : ℕ) → i < j → j < length l → p (getD l i 0) ≡ true → p (getD l j 0) ≡ true → ⊥)
+    → countOf p l ≤ 1
 unfolding countOf
 count-once p [] h = omega arith
 count-once p (k ∷ l) h =
@@ -173,11 +177,21 @@ module _ (kept : List ℕ) (runs : Runs kept) where
   held-length : (gone : List Tile) → ((g : Tile) → List·Memᴰ g gone → OfMap g) → heldBy (map locationTile kept) gone ≤ length gone
   held-length [] each = omega (arith, held-none (map locationTile kept))
   held-length (g ∷ gone) each =
-      omega (arith, held-more (map locationTile kept) g gone, held-once g (each g (List·Memᴰ·head refl)), held-length gone (λ h m. each h (List·Memᴰ·tail m)))
+      omega (
+        arith,
+        held-more (map locationTile kept) g gone,
+        held-once g (each g (List·Memᴰ·head refl)),
+        held-length gone (λ h m. each h (List·Memᴰ·tail m)),
+      )
 
   pub without-length : (gone : List ℕ) → Runs gone → length (without kept gone) ≤ length kept + 3 * (maxZoom * length gone)
   without-length gone others =
       let h : heldBy (map locationTile kept) (map locationTile gone) ≤ length gone =
       rw (length-map gone locationTile) at
       (held-length (map locationTile gone) (λ g m. let s = gone-at gone m in rw (s .2) (others .each (s .0) (s .1) .of-map))) in
-      omega (arith, all-length maxZoom (map locationTile gone) (map locationTile kept), mul-le-mul-left maxZoom h, length-map kept locationTile)
+      omega (
+        arith,
+        all-length maxZoom (map locationTile gone) (map locationTile kept),
+        mul-le-mul-left maxZoom h,
+        length-map kept locationTile,
+      )

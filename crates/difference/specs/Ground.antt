@@ -9,7 +9,8 @@ use native.Mathlib.Decide.{decLe}
 use native.Mathlib.Omega.{arith}
 use Rattle.bits.specs.Tests.{anyOf, in-any, any-in}
 use Rattle.tile.specs.declared.Tile.{Tile}
-use Rattle.tile_set.specs.Holds.{Holds, holds-refl, holds-trans, holds-both, holds-level, child-held, cut, parent-of-child, Valid, valid-child}
+use Rattle.tile_set.specs.Holds.{Holds, holds-refl, holds-trans, holds-both, holds-level, child-held, cut, parent-of-child, Valid}
+use Rattle.tile_set.specs.Holds.{valid-child}
 use Rattle.tile_set.specs.Set.{child, parentTile}
 use Rattle.difference.specs.Left.{holds, ofFour, leftOf, leftOfAll}
 use Rattle.difference.specs.Holding.{Bare, holds-true, true-holds, left-dropped, left-kept, left-four}
@@ -22,7 +23,8 @@ in-four : (f : Tile → List Tile) (t : Tile) {s : Tile} → List·Memᴰ s (ofF
     → (i : ℕ) × (j : ℕ) × (i < 2) × (j < 2) × List·Memᴰ s (f (child t i j))
 in-four f t {s} m = one (List·Memᴰ·append-cases (f (child t 0 0)) m)
   where
-    three : List·Memᴰ s (f (child t 0 1)) ⊎ List·Memᴰ s (f (child t 1 1)) → (i : ℕ) × (j : ℕ) × (i < 2) × (j < 2) × List·Memᴰ s (f (child t i j))
+    three : List·Memᴰ s (f (child t 0 1)) ⊎ List·Memᴰ s (f (child t 1 1))
+        → (i : ℕ) × (j : ℕ) × (i < 2) × (j < 2) × List·Memᴰ s (f (child t i j))
     three (inl k) = (0, 1, omega arith, omega arith, k)
     three (inr k) = (1, 1, omega arith, omega arith, k)
 
@@ -65,7 +67,8 @@ module _ (D : ℕ) (gone : List Tile) (deep : (g : Tile) → List·Memᴰ g gone
       second : (b : Bool) → anyOf (holds t) gone ≡ b → Bare gone t → Way t d
       second true a f = let s = any-in (holds t) gone a in under d e f (s .0) (s .1) (holds-true t (s .0) (s .2))
       second false a f =
-          let none : (g : Tile) → List·Memᴰ g gone → Holds t g → ⊥ = λ g m h. true≢false (sym (in-any (holds t) gone m (true-holds h)) ∙ a) in
+          let none : (g : Tile) → List·Memᴰ g gone → Holds t g → ⊥ =
+          λ g m h. true≢false (sym (in-any (holds t) gone m (true-holds h)) ∙ a) in
           kept f none (left-kept gone t d f none)
 
       first : (b : Bool) → anyOf (λ g. holds g t) gone ≡ b → Way t d
@@ -121,7 +124,8 @@ module _ (D : ℕ) (gone : List Tile) (deep : (g : Tile) → List·Memᴰ g gone
             let r = below b q (s .0) (s .1) (s .2) (s .3) (s .4) w in
             (r .0, rw f (four-in (leftOf b gone) t (s .0) (s .1) (s .2) (s .3) (r .1)), r .2)
 
-    pub left-covers : (t : Tile) → t .z ≤ D → Covered (leftOf (D - t .z) gone t) c ↔ (Holds t c × ((g : Tile) → List·Memᴰ g gone → Holds g c → ⊥))
+    pub left-covers : (t : Tile) → t .z ≤ D
+        → Covered (leftOf (D - t .z) gone t) c ↔ (Holds t c × ((g : Tile) → List·Memᴰ g gone → Holds g c → ⊥))
     left-covers t h = (covered-then (D - t .z) t (omega arith), λ w. then-covered (D - t .z) t (omega arith) (w .0) (w .1))
 
   -- s is t, or its parent lies in t and holds a tile that is taken away
@@ -132,7 +136,8 @@ module _ (D : ℕ) (gone : List Tile) (deep : (g : Tile) → List·Memᴰ g gone
   left-needed-at = by-levels (λ d t. (s : Tile) → List·Memᴰ s (leftOf d gone t) → Needed t s) step
     where
       step : (d : ℕ) (t : Tile) → t .z + d ≡ D → Way t d
-          → ((e : ℕ) → d ≡ suc e → (i j : ℕ) → i < 2 → j < 2 → (s : Tile) → List·Memᴰ s (leftOf e gone (child t i j)) → Needed (child t i j) s)
+          → ((e : ℕ) → d ≡ suc e → (i j : ℕ) → i < 2 → j < 2 → (s : Tile) → List·Memᴰ s (leftOf e gone (child t i j))
+          → Needed (child t i j) s)
           → (s : Tile) → List·Memᴰ s (leftOf d gone t) → Needed t s
       step d t e (dropped g n k f) below s m = absurd (List·Memᴰ·not-nil (rw f at m))
       step d t e (kept bare none f) below s m = inl (List·Memᴰ·eq-of-singleton (rw f at m))
@@ -153,7 +158,8 @@ module _ (D : ℕ) (gone : List Tile) (deep : (g : Tile) → List·Memᴰ g gone
   left-valid-at = by-levels (λ d t. Valid D t → (s : Tile) → List·Memᴰ s (leftOf d gone t) → Valid D s) step
     where
       step : (d : ℕ) (t : Tile) → t .z + d ≡ D → Way t d
-          → ((e : ℕ) → d ≡ suc e → (i j : ℕ) → i < 2 → j < 2 → Valid D (child t i j) → (s : Tile) → List·Memᴰ s (leftOf e gone (child t i j)) → Valid D s)
+          → ((e : ℕ) → d ≡ suc e → (i j : ℕ) → i < 2 → j < 2 → Valid D (child t i j) → (s : Tile)
+          → List·Memᴰ s (leftOf e gone (child t i j)) → Valid D s)
           → Valid D t → (s : Tile) → List·Memᴰ s (leftOf d gone t) → Valid D s
       step d t e (dropped g n k f) below v s m = absurd (List·Memᴰ·not-nil (rw f at m))
       step d t e (kept bare none f) below v s m = rw (List·Memᴰ·eq-of-singleton (rw f at m)) v

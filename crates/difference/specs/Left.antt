@@ -1,4 +1,5 @@
--- What is left of tiles when others are taken away: "a tile is kept, dropped, or handed to its four children, and each child is treated as a tile again".
+-- What is left of tiles when others are taken away: "a tile is kept, dropped, or handed to its four children, and each child is
+-- treated as a tile again".
 use mathlib.Core.Bool.{Bool, cond, _&&_}
 use mathlib.Core.List.{List, [], _∷_, _++_, map}
 use Prim.Native.Nat.{ℕ, zero, suc, _-_, _/_, _^_}

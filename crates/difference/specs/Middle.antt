@@ -34,7 +34,11 @@ without-next kept gone i h =
 module _ (kept gone before : List ℕ) where
   pub begun : Mid kept gone before before 0 0 0
   unfolding leftOfAll
-  begun = record { come = λ j a b. record { behind = behind-none gone (startOf (tiles kept j)); few = omega arith }; wrote = wrote-none 0 before }
+  begun = record {
+    come = λ j a b. record { behind = behind-none gone (startOf (tiles kept j)); few = omega arith };
+    wrote =
+        wrote-none 0 before;
+  }
 
   module _ (after : List ℕ) (i next count : ℕ) (m : Mid kept gone before after i next count) where
     pub moved : Runs kept → i < length kept → (low n c : ℕ) (l : List ℕ) → low ≡ lowOf (tiles kept i)

@@ -51,8 +51,10 @@ module _ (gone : List Tile) where
   between-four d t h each =
       let last : endOf (child t 1 1) ≡ endOf t = omega (arith, ends t h 1 1 (omega arith) (omega arith), low-child t h 0 0, low-below t) in
       join 0 0 _ _ _ (omega arith) (omega arith) (omega (arith, begins t h 0 0 (omega arith) (omega arith)))
-      (join 1 0 _ _ _ (omega arith) (omega arith) (omega (arith, ends t h 0 0 (omega arith) (omega arith), begins t h 1 0 (omega arith) (omega arith)))
-      (join 0 1 _ _ _ (omega arith) (omega arith) (omega (arith, ends t h 1 0 (omega arith) (omega arith), begins t h 0 1 (omega arith) (omega arith)))
+      (join 1 0 _ _ _ (omega arith) (omega arith)
+      (omega (arith, ends t h 0 0 (omega arith) (omega arith), begins t h 1 0 (omega arith) (omega arith)))
+      (join 0 1 _ _ _ (omega arith) (omega arith)
+      (omega (arith, ends t h 1 0 (omega arith) (omega arith), begins t h 0 1 (omega arith) (omega arith)))
       (between-from _ _ _ _ (omega (arith, ends t h 0 1 (omega arith) (omega arith), begins t h 1 1 (omega arith) (omega arith)))
       (subst (λ (n : ℕ). Between (startOf (child t 1 1)) n (leftOf d gone (child t 1 1))) last (each 1 1 (omega arith) (omega arith))))))
     where
@@ -62,7 +64,8 @@ module _ (gone : List Tile) where
           let c = child t i j in
           between-both a (endOf c) b (leftOf d gone c) m (between-from a (startOf c) (endOf c) (leftOf d gone c) f (each i j x y)) r
 
-  between-cond : (t : Tile) → OfMap t → (b : Bool) (l : List Tile) → Between (startOf t) (endOf t) l → Between (startOf t) (endOf t) (cond b [] l)
+  between-cond : (t : Tile) → OfMap t → (b : Bool) (l : List Tile) → Between (startOf t) (endOf t) l
+      → Between (startOf t) (endOf t) (cond b [] l)
   unfolding Between
   between-cond t o true l s = omega arith
   between-cond t o false l s = s
@@ -94,11 +97,13 @@ module _ (gone : List Tile) where
   all-between (k ∷ l) a b h r f =
       let t = locationTile k in
       let o = r .each 0 (omega arith) .of-map in
-      let rest : Runs l = record { each = λ i x. r .each (suc i) (omega arith); rise = λ i j x y. r .rise (suc i) (suc j) (omega arith) (omega arith) } in
+      let rest : Runs l = record
+      { each = λ i x. r .each (suc i) (omega arith); rise = λ i j x y. r .rise (suc i) (suc j) (omega arith) (omega arith) } in
       let L = leftOf (maxZoom - t .z) gone t in
       let here = left-between (maxZoom - t .z) t o (omega (arith, o .zoom)) in
       between-both a (endOf t) b L _ (between-from a (startOf t) (endOf t) L (f 0 (omega arith) .0) here)
-      (all-between l (endOf t) b (f 0 (omega arith) .1) rest (λ i x. (r .rise 0 (suc i) (omega arith) (omega arith), f (suc i) (omega arith) .1)))
+      (all-between l (endOf t) b (f 0 (omega arith) .1) rest
+      (λ i x. (r .rise 0 (suc i) (omega arith) (omega arith), f (suc i) (omega arith) .1)))
 
 between-starts : (l : List Tile) (a b i : ℕ) → Between a b l → i < length (map locationOf l) → a ≤ startOf (tiles (map locationOf l) i)
 unfolding Between
@@ -125,4 +130,5 @@ between-runs l a b s = record { each = each l a b s; rise = rise l a b s }
 pub without-runs : (kept gone : List ℕ) → Runs kept → Runs (map locationOf (without kept gone))
 without-runs kept gone r =
     between-runs (without kept gone) 0 (2 ^ 63)
-    (all-between (map locationTile gone) kept 0 (2 ^ 63) (omega arith) r (λ i h. (omega arith, omega (arith, end-small (tiles kept i) (r .each i h .of-map)))))
+    (all-between (map locationTile gone) kept 0 (2 ^ 63) (omega arith) r
+    (λ i h. (omega arith, omega (arith, end-small (tiles kept i) (r .each i h .of-map)))))

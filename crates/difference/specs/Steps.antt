@@ -11,7 +11,8 @@ use lib.ListN.{length, set}
 use Rattle.constants.specs.Limits.{maxZoom}
 use Rattle.quadtree.specs.Laws.{location-tile}
 use Rattle.quadtree.specs.Numbers.{OfMap, locationOf, locationTile}
-use Rattle.quadtree.specs.Locations.{lowOf, startOf, endOf, low-child, location-child, tile-location, Room, room, tiles, valid-tile, map-tile}
+use Rattle.quadtree.specs.Locations.{lowOf, startOf, endOf, low-child, location-child, tile-location, Room, room, tiles, valid-tile}
+use Rattle.quadtree.specs.Locations.{map-tile}
 use Rattle.tile.specs.declared.Tile.{Tile}
 use Rattle.tile_set.specs.Holds.{valid-child}
 use Rattle.tile_set.specs.Set.{child}
@@ -19,7 +20,8 @@ use Rattle.difference.specs.Left.{ofFour, leftOf, leftAt, fourAt}
 use Rattle.difference.specs.Touch.{past-all, before-next, in-next, over-next, not-deepest}
 use Rattle.difference.specs.Walk.{Behind, Come, AtTile, AtFour, Clear, Walked, behind-on, come-on, wrote-none, wrote-one, wrote-both}
 
-pub passed-on : {gone : List ℕ} {k low from next count : ℕ} → AtTile gone k low from count → Behind gone (k - low) next → AtTile gone k low next count
+pub passed-on : {gone : List ℕ} {k low from next count : ℕ} → AtTile gone k low from count → Behind gone (k - low) next
+    → AtTile gone k low next count
 passed-on a b = record { location = a .location; half = a .half; runs = a .runs; come = record { behind = b; few = a .come .few } }
 
 module _ {gone : List ℕ} {k low next count : ℕ} (a : AtTile gone k low next count) where
@@ -38,18 +40,24 @@ module _ {gone : List ℕ} {k low next count : ℕ} (a : AtTile gone k low next 
   kept f n c before after g h w =
       let v : after ≡ set before count (locationOf t) = w ∙ ap (set before count) (sym (a .location .again)) in
       let r : Come gone (k + low) n c =
-      record { behind = rw g (behind-on (a .come .behind) (omega arith)); few = omega (arith, a .come .few, room (a .location) (a .half) .some) } in
+      record {
+        behind = rw g (behind-on (a .come .behind) (omega arith));
+        few =
+            omega (arith, a .come .few, room (a .location) (a .half) .some);
+      } in
       record { come = r; wrote = rw (f, h, v) (wrote-one t count before) }
 
   pub kept-clear : Clear true gone next (k + low) → Keeps
   kept-clear c = kept (pick (decLt next (length gone)))
     where
       pick : Dec (next < length gone) → leftAt gone k ≡ t ∷ []
-      pick (yes h) = before-next gone (a .runs) t (a .location .of-map) (maxZoom - t .z) next behind h (omega (arith, c h, a .half, a .location .again))
+      pick (yes h) = before-next gone (a .runs) t (a .location .of-map) (maxZoom - t .z) next behind h
+          (omega (arith, c h, a .half, a .location .again))
       pick (no h) = past-all gone (a .runs) t (a .location .of-map) (maxZoom - t .z) next behind (omega (arith, a .come .behind .within))
 
   -- the next tile that is taken away, half whose run is `wide` long
-  module _ (n : Clear false gone next (k + low)) {wide : ℕ} (f : wide ≡ lowOf (tiles gone next)) (y : k - low < endOf (tiles gone next)) where
+  module _ (n : Clear false gone next (k + low)) {wide : ℕ} (f : wide ≡ lowOf (tiles gone next))
+      (y : k - low < endOf (tiles gone next)) where
     h : next < length gone
     h = n .0
 
@@ -84,7 +92,8 @@ module _ {gone : List ℕ} {k low next count : ℕ} (a : AtTile gone k low next 
           → Walked (leftAt gone k) gone (k + low) count before after n c
       handed w =
           let d : maxZoom - t .z ≡ suc (maxZoom - suc (t .z)) = omega (arith, higher) in
-          let o = over-next gone (a .runs) t (a .location .of-map) (maxZoom - suc (t .z)) next behind h begins ends (omega (arith, a .half)) in
+          let o = over-next gone (a .runs) t (a .location .of-map) (maxZoom - suc (t .z)) next behind h begins ends
+          (omega (arith, a .half)) in
           record { come = come-on (w .come) (omega (arith, quarters)); wrote = rw (d, o) (w .wrote) }
 
 -- child n in the quadtree's order
@@ -108,7 +117,8 @@ childAt k q n = k - 3 * q + 2 * n * q
 abbrev leftBelow : List ℕ → ℕ → Tile → List Tile
 leftBelow gone k = leftOf (maxZoom - suc (locationTile k .z)) (map locationTile gone)
 
--- the walk stands at the start of child n of the tile at location k, or at the tile's end where n is 4. What is left of the first n children is written
+-- the walk stands at the start of child n of the tile at location k, or at the tile's end where n is 4. What is left of the first n
+-- children is written
 pub record AtChild (gone : List ℕ) (k q count : ℕ) (before after : List ℕ) (n next c : ℕ) : Type 0 where
   pub most : n ≤ 4
   pub walked : Walked (ofFirst (leftBelow gone k) (locationTile k) n) gone (k - 4 * q + 2 * n * q) count before after next c
@@ -126,7 +136,8 @@ module _ {gone : List ℕ} {k q next count : ℕ} (a : AtFour gone k q next coun
     c = nth (locationTile k) n
 
     of-map : OfMap c
-    of-map = map-tile c (valid-child (n % 2) (n / 2) (valid-tile (locationTile k) (a .location .of-map)) (a .higher) (omega arith) (omega arith))
+    of-map = map-tile c (valid-child (n % 2) (n / 2) (valid-tile (locationTile k) (a .location .of-map)) (a .higher) (omega arith)
+        (omega arith))
 
     pub steps : 2 * n * q ≤ 6 * q
     steps = mul-le-mul-right q (omega arith)

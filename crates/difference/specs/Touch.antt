@@ -11,7 +11,8 @@ use Rattle.constants.specs.Limits.{maxZoom}
 use Rattle.quadtree.specs.Laws.{location-tile}
 use Rattle.quadtree.specs.Numbers.{OfMap, locationOf, locationTile}
 use Rattle.sort.specs.At.{in-at}
-use Rattle.quadtree.specs.Locations.{lowOf, startOf, endOf, low-pos, low-below, held-run, lies, Lie, holding, held, before, after, tiles, Runs}
+use Rattle.quadtree.specs.Locations.{lowOf, startOf, endOf, low-pos, low-below, held-run, lies, Lie, holding, held, before, after, tiles}
+use Rattle.quadtree.specs.Locations.{Runs}
 use Rattle.tile.specs.declared.Tile.{Tile}
 use Rattle.tile_set.specs.Holds.{Holds, holds-refl, holds-trans, holds-level}
 use Rattle.difference.specs.Left.{ofFour, leftOf}
@@ -78,7 +79,8 @@ module _ (l : List ℕ) (runs : Runs l) (t : Tile) (o : OfMap t) (d : ℕ) where
 
       module _ (x : startOf (tiles l next) < endOf t) (y : startOf t < endOf (tiles l next)) where
         pub in-next : lowOf t ≤ lowOf (tiles l next) → leftOf d (map locationTile l) t ≡ []
-        in-next k = left-dropped (map locationTile l) t d (tiles l next) (at-gone l next h) (longer-holds (tiles l next) t (of-map next h) o x y k)
+        in-next k = left-dropped (map locationTile l) t d (tiles l next) (at-gone l next h)
+            (longer-holds (tiles l next) t (of-map next h) o x y k)
 
         module _ (k : lowOf (tiles l next) < lowOf t) where
           holds-next : Holds t (tiles l next)

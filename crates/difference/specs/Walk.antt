@@ -43,7 +43,8 @@ pub record AtFour (gone : List ℕ) (k quarter next count : ℕ) : Type 0 where
   pub runs : Runs gone
   pub come : Come gone (k - 4 * quarter) next count
 
--- where the answer is true, no tile that is taken away from `next` on starts before the number `end`, and where it is false, the next one does
+-- where the answer is true, no tile that is taken away from `next` on starts before the number `end`, and where it is false, the next
+-- one does
 abbrev pub Clear : Bool → List ℕ → ℕ → ℕ → Type 0
 Clear true gone next end = next < length gone → end ≤ startOf (tiles gone next)
 Clear false gone next end = (next < length gone) × (startOf (tiles gone next) < end)
@@ -56,7 +57,8 @@ pub record Walked (left : List Tile) (gone : List ℕ) (to count : ℕ) (before 
 pub behind-none : (gone : List ℕ) (to : ℕ) → Behind gone to 0
 behind-none gone to = record { within = omega arith; each = λ i h. absurd (omega arith) }
 
-pub behind-more : {gone : List ℕ} {to next : ℕ} → Behind gone to next → next < length gone → endOf (tiles gone next) ≤ to → Behind gone to (next + 1)
+pub behind-more : {gone : List ℕ} {to next : ℕ} → Behind gone to next → next < length gone → endOf (tiles gone next) ≤ to
+    → Behind gone to (next + 1)
 behind-more {gone} {to} {next} b h e = record { within = omega arith; each = λ i k. pick i k (decLt i next) }
   where
     pick : (i : ℕ) → i < next + 1 → Dec (i < next) → endOf (tiles gone i) ≤ to

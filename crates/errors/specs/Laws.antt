@@ -36,7 +36,8 @@ stands why m e = let p = positive why in rw (← e, p .1)
 pub refused-answer : {A : Type 0} (why : Refusal) {n : ℕ} (none v : A) → n ≡ numberOf why → refusedAs why none ≡ answer n none v
 refused-answer why none v e = let p = positive why in rw (e, p .1)
 
-pub refused-lent : (why : Refusal) {n : ℕ} (items memory : List ℕ) → n ≡ numberOf why → left (count.Refused why) memory ≡ lent n items memory
+pub refused-lent : (why : Refusal) {n : ℕ} (items memory : List ℕ) → n ≡ numberOf why
+    → left (count.Refused why) memory ≡ lent n items memory
 refused-lent why items memory e = let p = positive why in rw (e, p .1)
 
 -- where a chain refuses nothing, no part of it does

@@ -31,10 +31,12 @@ front-more n items memory h k =
     )
 
 -- the three ends of a call that writes a list
-pub written-refused : (why : Refusal) {n : ℕ} (items memory : List ℕ) → numberOf why ≡ n → left (count.Refused why) memory ≡ written n items memory
+pub written-refused : (why : Refusal) {n : ℕ} (items memory : List ℕ) → numberOf why ≡ n
+    → left (count.Refused why) memory ≡ written n items memory
 written-refused why items memory e = refused-lent why items memory (stands why (short items memory) e)
 
-pub written-short : {n : ℕ} (items memory : List ℕ) → n ≡ 0 → length memory < length items → left (count.Refused Memory) memory ≡ written n items memory
+pub written-short : {n : ℕ} (items memory : List ℕ) → n ≡ 0 → length memory < length items
+    → left (count.Refused Memory) memory ≡ written n items memory
 written-short items memory e h = rw (e, lt-ltb _ _ h)
 
 pub written-done : {n k : ℕ} (items memory after : List ℕ) → n ≡ 0 → length items ≤ length memory → k ≡ length items

@@ -73,5 +73,6 @@ module _ (from : ℕ) (l : List ℕ) (i : ℕ) (h : i < length l) where
   pub join-family : fourFrom from (drop i l) ≡ true → joinOf from (drop i l) ≡ getD l i 0 / 4 ∷ joinOf from (drop (i + 4) l)
   join-family e =
       let f : suc i + 3 ≡ i + 4 = omega arith in
-      ap (joinOf from) (drop-cons l i 0 h) ∙ (join-four from (getD l i 0) (drop (suc i) l) (ap (fourFrom from) (sym (drop-cons l i 0 h)) ∙ e)
+      ap (joinOf from) (drop-cons l i 0 h)
+      ∙ (join-four from (getD l i 0) (drop (suc i) l) (ap (fourFrom from) (sym (drop-cons l i 0 h)) ∙ e)
       ∙ ap (λ (k : List ℕ). getD l i 0 / 4 ∷ joinOf from k) (drop-drop 3 (suc i) l ∙ ap (λ (k : ℕ). drop k l) f))

@@ -60,7 +60,8 @@ run {q} l r a b c = two (next l r a)
         r1 = rising-rest q (suc q ∷ k) (rw e at r)
 
         three : (j : List ℕ) × (k ≡ suc (suc q) ∷ j) → (k : List ℕ) × (l ≡ suc q ∷ (suc (suc q) ∷ (suc (suc (suc q)) ∷ k)))
-        three (j, f) = four (next j (rising-rest (suc q) (suc (suc q) ∷ j) (rw f at r1)) (behind (omega arith) (rw f at (behind (omega arith) (rw e at c)))))
+        three (j, f) = four (next j (rising-rest (suc q) (suc (suc q) ∷ j) (rw f at r1))
+            (behind (omega arith) (rw f at (behind (omega arith) (rw e at c)))))
           where
             four : (i : List ℕ) × (j ≡ suc (suc (suc q)) ∷ i) → (k : List ℕ) × (l ≡ suc q ∷ (suc (suc q) ∷ (suc (suc (suc q)) ∷ k)))
             four (i, g) = (i, e ∙ ap (λ (m : List ℕ). suc q ∷ m) (f ∙ ap (λ (m : List ℕ). suc (suc q) ∷ m) g))
@@ -83,7 +84,8 @@ family-first from p q l r f e =
 
     here : (k : List ℕ) × (l ≡ suc q ∷ (suc (suc q) ∷ (suc (suc (suc q)) ∷ k))) → fourFrom from (q ∷ l) ≡ true
     here (k, g) =
-        rw g (true-four (record { long = omega arith; above = omega (arith, f .above, start); first = omega (arith, start); last = omega arith }))
+        rw g (true-four (record
+        { long = omega arith; above = omega (arith, f .above, start); first = omega (arith, start); last = omega arith }))
 
 -- four that begin the list: they are one family
 record Begun (from q : ℕ) (l : List ℕ) : Type 0 where
@@ -306,10 +308,12 @@ pub join-shorter : (from p : ℕ) (l : List ℕ) → Rising l → Family from p 
 join-shorter from p [] r f = absurd (List·Memᴰ·not-nil (f .each 0 (omega arith)))
 join-shorter from p (q ∷ l) r f = pick (fourFrom from (q ∷ l)) refl (join-shorter from p l (rising-rest q l r))
   where
-    pick : (b : Bool) → fourFrom from (q ∷ l) ≡ b → (Family from p l → length (joinOf from l) < length l) → length (joinOf from (q ∷ l)) < length (q ∷ l)
+    pick : (b : Bool) → fourFrom from (q ∷ l) ≡ b → (Family from p l → length (joinOf from l) < length l)
+        → length (joinOf from (q ∷ l)) < length (q ∷ l)
     pick true e below =
         let b = begun from q l r e in
-        let f : joinOf from (q ∷ l) ≡ q / 4 ∷ joinOf from (b .rest) = join-four from q l e ∙ ap (λ (j : List ℕ). q / 4 ∷ joinOf from (drop 3 j)) (b .split) in
+        let f : joinOf from (q ∷ l) ≡ q / 4 ∷ joinOf from (b .rest) =
+        join-four from q l e ∙ ap (λ (j : List ℕ). q / 4 ∷ joinOf from (drop 3 j)) (b .split) in
         let g : length l ≡ length (suc q ∷ (suc (suc q) ∷ (suc (suc (suc q)) ∷ b .rest))) = ap length (b .split) in
         rw f (omega (arith, join-length from (b .rest)))
     pick false e below = rw (join-cons from q l e) (omega (arith, below (off from q l r e p f)))
@@ -320,5 +324,6 @@ join-same from [] r n = refl
 join-same from (q ∷ l) r n = pick (fourFrom from (q ∷ l)) refl (join-same from l (rising-rest q l r))
   where
     pick : (b : Bool) → fourFrom from (q ∷ l) ≡ b → (((p : ℕ) → Family from p l → ⊥) → joinOf from l ≡ l) → joinOf from (q ∷ l) ≡ q ∷ l
-    pick true e below = let b = begun from q l r e in absurd (n (q / 4) (rw (b .split) (own from q (b .rest) (rw (b .split) at r) (b .first) (b .above))))
+    pick true e below = let b = begun from q l r e in
+        absurd (n (q / 4) (rw (b .split) (own from q (b .rest) (rw (b .split) at r) (b .first) (b .above))))
     pick false e below = join-cons from q l e ∙ ap (λ (k : List ℕ). q ∷ k) (below (λ p f. n p (on from q l r e p f)))

@@ -61,7 +61,8 @@ sort-passed {m} {after} {r} before p =
 
 -- the Morton codes that a pass left, as a list
 pub passed-merges : {m count : ℕ} {after memory : List ℕ} {r : Joined} (before : List ℕ) → Passed m (sortN before) after r
-    → Listed (named mortonTile (take (r .count) after)) memory count → Merges m before memory (record { count = count; changed = r .changed })
+    → Listed (named mortonTile (take (r .count) after)) memory count
+    → Merges m before memory (record { count = count; changed = r .changed })
 passed-merges {m} {count} {after} {memory} {r} before p l =
     let q = sort-passed before p in
     record { listed = rw (q .set) at l; still = q .still; moved = q .moved }

@@ -18,7 +18,8 @@ use Rattle.tile_list.specs.List.{named}
 use Rattle.tile_list.specs.Laws.{named-by, names}
 use Rattle.quadtree.specs.Locations.{valid-tile, map-tile}
 use Rattle.tile_set.specs.Holds.{valid-parent, valid-child, parent-of-child}
-use Rattle.tile_set.specs.Merged.{whole-all, joins-when, joined-when, merged-cases, merged-kept, merged-joined, joined-joins, joins-joined, is-false, bool-ext}
+use Rattle.tile_set.specs.Merged.{whole-all, joins-when, joined-when, merged-cases, merged-kept, merged-joined, joined-joins}
+use Rattle.tile_set.specs.Merged.{joins-joined, is-false, bool-ext}
 use Rattle.tile_set.specs.Set.{parentTile, child, joins, joined, merged}
 use Rattle.families.specs.Join.{firstMorton, joinOf}
 use Rattle.families.specs.Members.{Family, Left, join-leaves, join-keeps, join-same, join-shorter}
@@ -34,9 +35,11 @@ first-above t m o h = pick (decLt m (t .z)) (decLt m maxZoom)
   where
     pick : Dec (m < t .z) → Dec (m < maxZoom) → m < t .z
     pick (yes k) d = k
-    pick (no k) (yes l) = let h : 4 ^ (m + 1) ≤ mortonOf t = rw (lt-ltb _ _ l) at h in absurd (omega (arith, morton-shallower t m (omega arith)))
+    pick (no k) (yes l) = let h : 4 ^ (m + 1) ≤ mortonOf t = rw (lt-ltb _ _ l) at h in
+        absurd (omega (arith, morton-shallower t m (omega arith)))
     pick (no k) (no l) =
-        let h : 4 ^ (maxZoom + 1) ≤ mortonOf t = rw (le-ltb m maxZoom (omega arith)) at h in absurd (omega (arith, morton-shallower t maxZoom (o .zoom)))
+        let h : 4 ^ (maxZoom + 1) ≤ mortonOf t = rw (le-ltb m maxZoom (omega arith)) at h in
+        absurd (omega (arith, morton-shallower t maxZoom (o .zoom)))
 
 module _ (m : ℕ) (l : List ℕ) (q : TileNumbers mortonOf l) where
   abbrev S : Tile → Bool
@@ -59,7 +62,8 @@ module _ (m : ℕ) (l : List ℕ) (q : TileNumbers mortonOf l) where
       joined-when m S P .1 (
         let k = first-above (child P 0 0) m (kid 0 0 (omega arith) (omega arith))
             (rw (morton-child P 0 0 (omega arith) (omega arith)) (omega (arith, f .above))) in omega arith,
-        whole-all S P .1 (λ i j a b. in-morton (child P i j) (kid i j a b) (Memᴰ·cast (morton-child P i j a b) (f .each (2 * j + i) (omega arith)))),
+        whole-all S P .1 (λ i j a b. in-morton (child P i j) (kid i j a b)
+            (Memᴰ·cast (morton-child P i j a b) (f .each (2 * j + i) (omega arith)))),
       )
     where
       kid : (i j : ℕ) → i < 2 → j < 2 → OfMap (child P i j)
@@ -156,7 +160,8 @@ module _ (m : ℕ) (l : List ℕ) (q : TileNumbers mortonOf l) where
             rw (← f) (u .3)
 
         out : merged m S t ≡ true → named mortonTile R t ≡ true
-        out e = let s = tile-left t e in names mortonTile R (mortonOf t) t (join-keeps (firstMorton m) (mortonOf t) l r (s .1)) (morton-tile t (s .0))
+        out e = let s = tile-left t e in
+            names mortonTile R (mortonOf t) t (join-keeps (firstMorton m) (mortonOf t) l r (s .1)) (morton-tile t (s .0))
 
   -- the list grows shorter just where some tile joins
   pub join-changes : Rising l → ((t : Tile) → S t ≡ true → joins m S t ≡ false) → joinOf (firstMorton m) l ≡ l

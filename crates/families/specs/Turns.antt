@@ -70,7 +70,8 @@ module _ (m : ℕ) (before : List ℕ) where
         end =
             let a : maxZoom - (zooms - 1) ≡ 1 + n = omega (arith, T .few) in
             let b : zooms + n ≡ maxZoom = omega (arith, T .few) in
-            ap (λ (i : ℕ). passes i m S) a ∙ (still-later 1 n m S same ∙ (sym (still-later zooms n m S same) ∙ ap (λ (i : ℕ). passes i m S) b))
+            ap (λ (i : ℕ). passes i m S) a
+            ∙ (still-later 1 n m S same ∙ (sym (still-later zooms n m S same) ∙ ap (λ (i : ℕ). passes i m S) b))
 
   pub turned-all : (codes : List ℕ) (left zooms : ℕ) → Turn codes left zooms → zooms ≤ 0 → Still m before codes left
   turned-all codes left zooms T h =

@@ -70,7 +70,8 @@ pub record First (p : ℕ → Bool) (z end first : ℕ) : Type 0 where
 
 pub first-zoom : (p : ℕ → Bool) (z zooms : ℕ) → First p z (z + zooms) (firstZoom p z zooms)
 unfolding firstZoom
-first-zoom p z zero = record { from = omega arith; within = omega arith; before = λ k h l. absurd (omega arith); holds = λ l. absurd (omega arith) }
+first-zoom p z zero =
+    record { from = omega arith; within = omega arith; before = λ k h l. absurd (omega arith); holds = λ l. absurd (omega arith) }
 first-zoom p z (suc zooms) = pick (p z) refl (first-zoom p (suc z) zooms)
   where
     pick : (b : Bool) → p z ≡ b → First p (suc z) (suc z + zooms) (firstZoom p (suc z) zooms)

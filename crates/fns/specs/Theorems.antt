@@ -40,7 +40,12 @@ off-the-map-first x y z n e = rw e
 -- the ancestor is a tile of the map
 pub parent-on-map : {x y z n : ℕ} → OnMap x y z → n < z → OnMap (x / 2 ^ (1 + n)) (y / 2 ^ (1 + n)) (z - 1 - n)
 parent-on-map {x} {y} {z} {n} m h =
-    record { zoom = omega (arith, m .zoom); column = shr-lt (z - 1 - n) (1 + n) (rw e (m .column)); row = shr-lt (z - 1 - n) (1 + n) (rw e (m .row)) }
+    record {
+      zoom = omega (arith, m .zoom);
+      column = shr-lt (z - 1 - n) (1 + n) (rw e (m .column));
+      row =
+          shr-lt (z - 1 - n) (1 + n) (rw e (m .row));
+    }
   where
     e : z - 1 - n + (1 + n) ≡ z
     e = omega arith
@@ -179,7 +184,8 @@ module _ (west south east north : ℕ) where
   }
 
   from-part : (z : ℕ) → PartAt west south east north z → First test 0 28 z
-  from-part z a = record { from = omega arith; within = a .most; before = λ k h l. agree k .1 (a .above k l); holds = λ l. told (test z) refl l }
+  from-part z a = record
+      { from = omega arith; within = a .most; before = λ k h l. agree k .1 (a .above k l); holds = λ l. told (test z) refl l }
     where
       told : (b : Bool) → test z ≡ b → z < 28 → b ≡ true
       told true e l = refl

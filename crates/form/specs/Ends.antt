@@ -53,7 +53,8 @@ module _ (body bytes : List ℕ) (e : tilesFront ++ body ≡ bytes) where
       spelled = append-cancel-left tilesFront _ _ (sym (tiles-text keys rest) ∙ (a .spelled ∙ sym e));
     },
   )
-  form-keys (pair verb f g) rest a = absurd (tiles-no-verb verb (sym (ap (λ (l : List ℕ). getD l 1 0) (sym e)) ∙ letter-of (pair verb f g) rest bytes a))
+  form-keys (pair verb f g) rest a =
+      absurd (tiles-no-verb verb (sym (ap (λ (l : List ℕ). getD l 1 0) (sym e)) ∙ letter-of (pair verb f g) rest bytes a))
 
 -- of bytes that start with the word of a pair and a space: a form there is such a pair, and its two forms follow
 module _ (verb : Verb) (body bytes : List ℕ) (e : pairFront verb ++ body ≡ bytes) where
@@ -75,7 +76,8 @@ module _ (verb : Verb) (body bytes : List ℕ) (e : pairFront verb ++ body ≡ b
       go Both = refl
       go Minus = refl
 
-  pub form-pair : (h : Form) (rest : List ℕ) → FormFirst h rest bytes → (p : Form × Form) × (h ≡ pair verb (p .0) (p .1)) × PairFirst (p .0) (p .1) rest body
+  pub form-pair : (h : Form) (rest : List ℕ) → FormFirst h rest bytes
+      → (p : Form × Form) × (h ≡ pair verb (p .0) (p .1)) × PairFirst (p .0) (p .1) rest body
   unfolding isForm
   form-pair (tiles keys) rest a = absurd (tiles-no-verb verb (sym (letter-of (tiles keys) rest bytes a) ∙ letter-here))
   form-pair (pair v f g) rest a =
@@ -100,14 +102,17 @@ Opened word.Other bytes = (f : Form) (rest : List ℕ) → FormFirst f rest byte
 module _ (bytes : List ℕ) where
   tiles-front : startsWith tilesFront bytes ≡ false → (keys : List (List ℕ)) (rest : List ℕ) → FormFirst (tiles keys) rest bytes → ⊥
   tiles-front miss keys rest a =
-      true≢false (sym (starts-with tilesFront (spaced keys ++ closing ∷ rest)) ∙ (ap (startsWith tilesFront) (sym (tiles-text keys rest) ∙ a .spelled) ∙ miss))
+      true≢false (sym (starts-with tilesFront (spaced keys ++ closing ∷ rest))
+      ∙ (ap (startsWith tilesFront) (sym (tiles-text keys rest) ∙ a .spelled) ∙ miss))
 
-  pair-front : (verb : Verb) → startsWith (pairFront verb) bytes ≡ false → (f g : Form) (rest : List ℕ) → FormFirst (pair verb f g) rest bytes → ⊥
+  pair-front : (verb : Verb) → startsWith (pairFront verb) bytes ≡ false → (f g : Form) (rest : List ℕ)
+      → FormFirst (pair verb f g) rest bytes → ⊥
   pair-front verb miss f g rest a =
       let body = text f ++ space ∷ (text g ++ closing ∷ rest) in
       let e : opening ∷ (wordOf verb ++ space ∷ body) ≡ pairFront verb ++ body =
       ap (λ (t : List ℕ). opening ∷ t) (sym (append-assoc (wordOf verb) (space ∷ []) body)) in
-      true≢false (sym (starts-with (pairFront verb) body) ∙ (ap (startsWith (pairFront verb)) (sym e ∙ (sym (pair-text verb f g rest) ∙ a .spelled)) ∙ miss))
+      true≢false (sym (starts-with (pairFront verb) body)
+      ∙ (ap (startsWith (pairFront verb)) (sym e ∙ (sym (pair-text verb f g rest) ∙ a .spelled)) ∙ miss))
 
   none : startsWith tilesFront bytes ≡ false → ((verb : Verb) → startsWith (pairFront verb) bytes ≡ false)
       → (f : Form) (rest : List ℕ) → FormFirst f rest bytes → ⊥
@@ -118,7 +123,8 @@ module _ (bytes : List ℕ) where
   unfolding wordAt
   opened = first (startsWith tilesFront bytes) refl
     where
-      each : startsWith (pairFront Plus) bytes ≡ false → startsWith (pairFront Both) bytes ≡ false → startsWith (pairFront Minus) bytes ≡ false
+      each : startsWith (pairFront Plus) bytes ≡ false → startsWith (pairFront Both) bytes ≡ false
+          → startsWith (pairFront Minus) bytes ≡ false
           → (verb : Verb) → startsWith (pairFront verb) bytes ≡ false
       each p q r Plus = p
       each p q r Both = q
@@ -129,7 +135,8 @@ module _ (bytes : List ℕ) where
       fourth t p q true e = start-split (pairFront Minus) bytes e
       fourth t p q false e = none t (each p q e)
 
-      third : startsWith tilesFront bytes ≡ false → startsWith (pairFront Plus) bytes ≡ false → (b : Bool) → startsWith (pairFront Both) bytes ≡ b
+      third : startsWith tilesFront bytes ≡ false → startsWith (pairFront Plus) bytes ≡ false → (b : Bool)
+          → startsWith (pairFront Both) bytes ≡ b
           → Opened (cond b (word.Pair Both) (cond (startsWith (pairFront Minus) bytes) (word.Pair Minus) word.Other)) bytes
       third t p true e = start-split (pairFront Both) bytes e
       third t p false e = fourth t p e (startsWith (pairFront Minus) bytes) refl
@@ -142,7 +149,8 @@ module _ (bytes : List ℕ) where
       second t false e = third t e (startsWith (pairFront Both) bytes) refl
 
       first : (b : Bool) → startsWith tilesFront bytes ≡ b
-          → Opened (cond b word.Tiles (cond (startsWith (pairFront Plus) bytes) (word.Pair Plus) (cond (startsWith (pairFront Both) bytes) (word.Pair Both)
+          → Opened (cond b word.Tiles
+          (cond (startsWith (pairFront Plus) bytes) (word.Pair Plus) (cond (startsWith (pairFront Both) bytes) (word.Pair Both)
           (cond (startsWith (pairFront Minus) bytes) (word.Pair Minus) word.Other)))) bytes
       first true e = start-split tilesFront bytes e
       first false e = second e (startsWith (pairFront Plus) bytes) refl
@@ -190,4 +198,5 @@ pub byte-split : (l : List ℕ) (n b : ℕ) → getD l n 0 ≡ b → (b ≡ 0 �
 byte-split l n b e d = rw (add-one n) (drop-cons l n 0 (byte-there l n b e d) ∙ ap (λ (x : ℕ). x ∷ drop (suc n) l) e)
 
 pub split-byte : (l : List ℕ) (n b : ℕ) (t : List ℕ) → drop n l ≡ b ∷ t → getD l n 0 ≡ b
-split-byte l n b t e = let z : n + 0 ≡ n = omega arith in ap (λ (i : ℕ). getD l i 0) (sym z) ∙ (sym (getD-drop n l 0 0) ∙ ap (λ (x : List ℕ). getD x 0 0) e)
+split-byte l n b t e = let z : n + 0 ≡ n = omega arith in
+    ap (λ (i : ℕ). getD l i 0) (sym z) ∙ (sym (getD-drop n l 0 0) ∙ ap (λ (x : List ℕ). getD x 0 0) e)

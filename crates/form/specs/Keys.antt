@@ -22,7 +22,8 @@ unfolding runLength allOf
 run-at-front [] = refl
 run-at-front (b ∷ l) = pick (isKeyByte b) refl (run-at-front l)
   where
-    pick : (t : Bool) → isKeyByte b ≡ t → allOf isKeyByte (take (runLength l) l) ≡ true → allOf isKeyByte (take (cond t (suc (runLength l)) 0) (b ∷ l)) ≡ true
+    pick : (t : Bool) → isKeyByte b ≡ t → allOf isKeyByte (take (runLength l) l) ≡ true
+        → allOf isKeyByte (take (cond t (suc (runLength l)) 0) (b ∷ l)) ≡ true
     pick true e below = rw e below
     pick false e below = refl
 
@@ -100,14 +101,16 @@ keys-first-key key keys rest bytes a = record {
 
 pub one-key : (key other r s bytes : List ℕ) → KeyFirst key r bytes → KeyFirst other s bytes → (key ≡ other) × (r ≡ s)
 one-key key other r s bytes a b =
-    one-run key other r s (run-bytes key (a .run)) (run-bytes other (b .run)) (a .ended) (b .ended) (tail-eq-of-cons-eq (a .spelled ∙ sym (b .spelled)))
+    one-run key other r s (run-bytes key (a .run)) (run-bytes other (b .run)) (a .ended) (b .ended)
+    (tail-eq-of-cons-eq (a .spelled ∙ sym (b .spelled)))
 
 module _ (key rest bytes : List ℕ) (k : KeyFirst key rest bytes) where
   pub one-more-key : (keys : List (List ℕ)) (end : List ℕ) → KeysFirst keys end rest → KeysFirst (key ∷ keys) end bytes
   unfolding allRuns spaced
   one-more-key keys end a = record {
     runs = rw (k .run) (a .runs);
-    spelled = ap (λ (l : List ℕ). space ∷ l) (append-assoc key (spaced keys) (closing ∷ end) ∙ ap (λ (l : List ℕ). key ++ l) (a .spelled)) ∙ k .spelled;
+    spelled = ap (λ (l : List ℕ). space ∷ l) (append-assoc key (spaced keys) (closing ∷ end) ∙ ap (λ (l : List ℕ). key ++ l) (a .spelled))
+        ∙ k .spelled;
   }
 
   pub one-key-less : (keys : List (List ℕ)) (end : List ℕ) → KeysFirst keys end bytes
@@ -143,7 +146,8 @@ keys-not-empty (key ∷ keys) rest a = cons≢nil (a .spelled)
 -- how far the keys have been read: the bytes hold keys just where what is left of them does
 pub record Passed (at : ℕ) (bytes : List ℕ) : Type 0 where
   pub within : at ≤ length bytes
-  pub forth : (keys : List (List ℕ)) (rest : List ℕ) → KeysFirst keys rest (drop at bytes) → (all : List (List ℕ)) × KeysFirst all rest bytes
+  pub forth : (keys : List (List ℕ)) (rest : List ℕ) → KeysFirst keys rest (drop at bytes)
+      → (all : List (List ℕ)) × KeysFirst all rest bytes
   pub back : (all : List (List ℕ)) (rest : List ℕ) → KeysFirst all rest bytes → (keys : List (List ℕ)) × KeysFirst keys rest (drop at bytes)
 
 pub passed-none : (bytes : List ℕ) → Passed 0 bytes
@@ -189,7 +193,8 @@ module _ (at : ℕ) (bytes : List ℕ) (p : Passed at bytes) where
     where
       go : (keys : List (List ℕ)) → KeysFirst keys rest (drop at bytes) → ⊥
       go [] c = d (split-byte bytes at closing rest (sym (only-closing rest (drop at bytes) c)))
-      go (key ∷ keys) c = omega (arith, e, first-key key (spaced keys ++ closing ∷ rest) (drop at bytes) (keys-first-key key keys rest (drop at bytes) c))
+      go (key ∷ keys) c = omega
+          (arith, e, first-key key (spaced keys ++ closing ∷ rest) (drop at bytes) (keys-first-key key keys rest (drop at bytes) c))
 
   pub keys-past : length bytes ≤ at → KeysEnds Nowhere bytes
   keys-past h all rest a = let b = p .back all rest a in keys-not-empty (b .0) rest (rw (drop-of-length-le bytes h) at (b .1))

@@ -6,13 +6,15 @@ use Prim.Native.Nat.{ℕ}
 use native.Mathlib.Omega.{arith}
 use lib.ListN.{getD}
 use Rattle.bits.specs.Tests.{and-parts, allOf}
-use Rattle.form.specs.Form.{space, opening, closing, Form, tiles, pair, isKeyByte, isRun, allRuns, isForm, spaced, text, wordOf, tilesWord}
+use Rattle.form.specs.Form.{space, opening, closing, Form, tiles, pair, isKeyByte, isRun, allRuns, isForm, spaced, text, wordOf}
+use Rattle.form.specs.Form.{tilesWord}
 use Rattle.form.specs.Front.{FormFirst, KeysFirst, Ended}
 use Rattle.form.specs.declared.Verb.{Verb}
 use Rattle.form.specs.declared.Verb.the-variants.{Plus, Both, Minus}
 
 -- a run of key bytes ends where the first other byte stands
-pub one-run : (k j r s : List ℕ) → allOf isKeyByte k ≡ true → allOf isKeyByte j ≡ true → Ended r → Ended s → k ++ r ≡ j ++ s → (k ≡ j) × (r ≡ s)
+pub one-run : (k j r s : List ℕ) → allOf isKeyByte k ≡ true → allOf isKeyByte j ≡ true → Ended r → Ended s → k ++ r ≡ j ++ s
+    → (k ≡ j) × (r ≡ s)
 unfolding allOf
 one-run [] [] r s a b p q e = (refl, e)
 one-run [] (y ∷ j) [] s a b p q e = absurd (nil≢cons e)
@@ -40,7 +42,8 @@ keys-ended (k ∷ keys) rest = refl
 space-not-closing : (a b : List ℕ) → space ∷ a ≡ closing ∷ b → ⊥
 space-not-closing a b e = let z : _≡_ {A = ℕ} 32 41 = head-eq-of-cons-eq e in omega arith
 
-pub one-keys : (keys others : List (List ℕ)) (r s bytes : List ℕ) → KeysFirst keys r bytes → KeysFirst others s bytes → (keys ≡ others) × (r ≡ s)
+pub one-keys : (keys others : List (List ℕ)) (r s bytes : List ℕ) → KeysFirst keys r bytes → KeysFirst others s bytes
+    → (keys ≡ others) × (r ≡ s)
 unfolding spaced allRuns
 one-keys [] [] r s bytes a b = (refl, tail-eq-of-cons-eq (a .spelled ∙ sym (b .spelled)))
 one-keys [] (j ∷ others) r s bytes a b = absurd (space-not-closing _ _ (b .spelled ∙ sym (a .spelled)))
@@ -52,10 +55,12 @@ one-keys (k ∷ keys) (j ∷ others) r s bytes a b =
     let h = one-run k j (spaced keys ++ closing ∷ r) (spaced others ++ closing ∷ s) (run-bytes k (p .0)) (run-bytes j (q .0))
     (keys-ended keys r) (keys-ended others s)
     (sym (append-assoc k (spaced keys) (closing ∷ r)) ∙ (e ∙ append-assoc j (spaced others) (closing ∷ s))) in
-    let below = one-keys keys others r s (spaced others ++ closing ∷ s) (record { runs = p .1; spelled = h .1 }) (record { runs = q .1; spelled = refl }) in
+    let below = one-keys keys others r s (spaced others ++ closing ∷ s) (record { runs = p .1; spelled = h .1 })
+    (record { runs = q .1; spelled = refl }) in
     (ap₂ (λ (z : List ℕ) (l : List (List ℕ)). z ∷ l) (h .0) (below .0), below .1)
 
-pub tiles-text : (keys : List (List ℕ)) (rest : List ℕ) → text (tiles keys) ++ rest ≡ opening ∷ (tilesWord ++ (spaced keys ++ closing ∷ rest))
+pub tiles-text : (keys : List (List ℕ)) (rest : List ℕ)
+    → text (tiles keys) ++ rest ≡ opening ∷ (tilesWord ++ (spaced keys ++ closing ∷ rest))
 unfolding text
 tiles-text keys rest = rw (append-assoc (spaced keys) (closing ∷ []) rest)
 
@@ -111,19 +116,25 @@ letter-of f rest bytes a = rw (← a .spelled) (letter-at f rest)
 pub one-form : (f g : Form) (r s bytes : List ℕ) → FormFirst f r bytes → FormFirst g s bytes → (f ≡ g) × (r ≡ s)
 unfolding isForm
 one-form (tiles keys) (tiles others) r s bytes a b =
-    let e = append-cancel-left tilesWord _ _ (tail-eq-of-cons-eq (sym (tiles-text keys r) ∙ (a .spelled ∙ (sym (b .spelled) ∙ tiles-text others s)))) in
-    let h = one-keys keys others r s (spaced others ++ closing ∷ s) (record { runs = a .formed; spelled = e }) (record { runs = b .formed; spelled = refl }) in
+    let e = append-cancel-left tilesWord _ _
+    (tail-eq-of-cons-eq (sym (tiles-text keys r) ∙ (a .spelled ∙ (sym (b .spelled) ∙ tiles-text others s)))) in
+    let h = one-keys keys others r s (spaced others ++ closing ∷ s) (record { runs = a .formed; spelled = e })
+    (record { runs = b .formed; spelled = refl }) in
     (ap tiles (h .0), h .1)
-one-form (tiles keys) (pair w c d) r s bytes a b = absurd (tiles-no-verb w (sym (letter-of (tiles keys) r bytes a) ∙ letter-of (pair w c d) s bytes b))
-one-form (pair v c d) (tiles others) r s bytes a b = absurd (tiles-no-verb v (sym (letter-of (tiles others) s bytes b) ∙ letter-of (pair v c d) r bytes a))
+one-form (tiles keys) (pair w c d) r s bytes a b =
+    absurd (tiles-no-verb w (sym (letter-of (tiles keys) r bytes a) ∙ letter-of (pair w c d) s bytes b))
+one-form (pair v c d) (tiles others) r s bytes a b =
+    absurd (tiles-no-verb v (sym (letter-of (tiles others) s bytes b) ∙ letter-of (pair v c d) r bytes a))
 one-form (pair v f g) (pair w j k) r s bytes a b =
     let same = same-verb v w (sym (letter-of (pair v f g) r bytes a) ∙ letter-of (pair w j k) s bytes b) in
     let p = and-parts (isForm f) (isForm g) (a .formed) in
     let q = and-parts (isForm j) (isForm k) (b .formed) in
     let t = tail-eq-of-cons-eq (sym (pair-text v f g r) ∙ (a .spelled ∙ (sym (b .spelled) ∙ pair-text w j k s))) in
-    let u = append-cancel-left (wordOf w) _ _ (sym (ap (λ (x : Verb). wordOf x ++ space ∷ (text f ++ space ∷ (text g ++ closing ∷ r))) same) ∙ t) in
+    let u = append-cancel-left (wordOf w) _ _
+    (sym (ap (λ (x : Verb). wordOf x ++ space ∷ (text f ++ space ∷ (text g ++ closing ∷ r))) same) ∙ t) in
     let left = one-form f j (space ∷ (text g ++ closing ∷ r)) (space ∷ (text k ++ closing ∷ s)) (text j ++ space ∷ (text k ++ closing ∷ s))
     (record { formed = p .0; spelled = tail-eq-of-cons-eq u }) (record { formed = q .0; spelled = refl }) in
-    let right = one-form g k (closing ∷ r) (closing ∷ s) (text k ++ closing ∷ s) (record { formed = p .1; spelled = tail-eq-of-cons-eq (left .1) })
+    let right = one-form g k (closing ∷ r) (closing ∷ s) (text k ++ closing ∷ s)
+    (record { formed = p .1; spelled = tail-eq-of-cons-eq (left .1) })
     (record { formed = q .1; spelled = refl }) in
     (rw (same, left .0, right .0), tail-eq-of-cons-eq (right .1))

@@ -22,7 +22,8 @@ module _ (bytes : List ℕ) where
   module _ (n : ℕ) (left : FormEnds (At n) bytes) where
     -- what follows the left form of a pair is the rest of the bytes
     behind-left : (f g : Form) (rest : List ℕ) → PairFirst f g rest bytes → drop n bytes ≡ space ∷ (text g ++ closing ∷ rest)
-    behind-left f g rest a = sym (one-form f (left .1 .0) (space ∷ (text g ++ closing ∷ rest)) (drop n bytes) bytes (left-first f g rest a) (left .1 .1) .1)
+    behind-left f g rest a =
+        sym (one-form f (left .1 .0) (space ∷ (text g ++ closing ∷ rest)) (drop n bytes) bytes (left-first f g rest a) (left .1 .1) .1)
 
     pub no-space : (getD bytes n 0 ≡ space → ⊥) → PairEnds Nowhere bytes
     no-space d p rest a = d (split-byte bytes n space _ (behind-left (p .0) (p .1) rest a))

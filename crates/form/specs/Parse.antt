@@ -1,12 +1,13 @@
--- Whether a form stands at the front of some bytes can be told: this makes `reading` of the grammar. What it answers is in the types, so that nothing
--- else leans on how it is found.
+-- Whether a form stands at the front of some bytes can be told: this makes `reading` of the grammar. What it answers is in the types,
+-- so that nothing else leans on how it is found.
 use mathlib.Core.Path.{_≡_, refl, sym, ap, _∙_}
 use mathlib.Core.List.{List}
 use Prim.Native.Nat.{ℕ, zero, suc, _+_, _≤_, _<_}
 use native.Mathlib.Decide.{decLt, ℕ-discrete}
 use native.Mathlib.Omega.{arith}
 use lib.ListN.{length, drop, getD, length-append, length-drop}
-use Rattle.form.specs.Ends.{FormEnds, PairEnds, KeysEnds, Opened, opened, shifted, ends-behind, keys-form, form-keys, pair-form, form-pair}
+use Rattle.form.specs.Ends.{FormEnds, PairEnds, KeysEnds, Opened, opened, shifted, ends-behind, keys-form, form-keys, pair-form}
+use Rattle.form.specs.Ends.{form-pair}
 use Rattle.form.specs.Form.{space, closing, Form, tiles, pair}
 use Rattle.form.specs.Front.{KeysFirst, PairFirst}
 use Rattle.form.specs.Keys.{Passed, passed-none, passed-key, keys-closed, keys-broken, keys-past}
@@ -29,7 +30,8 @@ module _ (bytes : List ℕ) where
   from : (n at : ℕ) → Passed at bytes → length bytes < at + n → (e : End) × KeysEnds e bytes
   from zero at p h = absurd (omega (arith, h, p .within))
   from (suc n) at p h =
-      next n at p (λ k e. from n (at + suc k) (passed-key at bytes p k e) (omega (arith, h))) (decLt at (length bytes)) (ℕ-discrete (getD bytes at 0) closing)
+      next n at p (λ k e. from n (at + suc k) (passed-key at bytes p k e) (omega (arith, h))) (decLt at (length bytes))
+      (ℕ-discrete (getD bytes at 0) closing)
       (keyLength (drop at bytes)) refl
 
   keysEnd : (e : End) × KeysEnds e bytes
@@ -43,7 +45,8 @@ module _ (bytes : List ℕ) where
       last n f s m g (yes c) = (At (n + 1 + m + 1), a-pair bytes n f s m g c)
       last n f s m g (no d) = (Nowhere, no-closing bytes n f s m g d)
 
-      right : (n : ℕ) (f : FormEnds (At n) bytes) (s : getD bytes n 0 ≡ space) → (e : End) × FormEnds e (drop (n + 1) bytes) → (e : End) × PairEnds e bytes
+      right : (n : ℕ) (f : FormEnds (At n) bytes) (s : getD bytes n 0 ≡ space) → (e : End) × FormEnds e (drop (n + 1) bytes)
+          → (e : End) × PairEnds e bytes
       right n f s (At m, g) = last n f s m g (ℕ-discrete (getD bytes (n + 1 + m) 0) closing)
       right n f s (Nowhere, never) = (Nowhere, no-right bytes n f s never)
 
@@ -57,7 +60,8 @@ module _ (bytes : List ℕ) where
 
 -- of a word at the front, where the form ends
 module _ (bytes : List ℕ) where
-  pub tiles-end : Opened word.Tiles bytes → (e : End) → KeysEnds e (drop (length tilesFront) bytes) → FormEnds (shifted (length tilesFront) e) bytes
+  pub tiles-end : Opened word.Tiles bytes → (e : End) → KeysEnds e (drop (length tilesFront) bytes)
+      → FormEnds (shifted (length tilesFront) e) bytes
   tiles-end o e k =
       ends-behind (List (List ℕ)) KeysFirst tilesFront bytes o tiles (keys-form (drop (length tilesFront) bytes) bytes o)
       (λ f rest a. let b = form-keys (drop (length tilesFront) bytes) bytes o f rest a in (b .0, b .2)) e k
@@ -74,7 +78,8 @@ formEnd zero bytes h = absurd (omega arith)
 formEnd (suc n) bytes h = pick (wordAt bytes) (opened bytes) (λ l k. formEnd n l (omega (arith, k, h)))
   where
     pick : (w : Word) → Opened w bytes → ((l : List ℕ) → length l < length bytes → (e : End) × FormEnds e l) → (e : End) × FormEnds e bytes
-    pick word.Tiles o forms = let k = keysEnd (drop (length tilesFront) bytes) in (shifted (length tilesFront) (k .0), tiles-end bytes o (k .0) (k .1))
+    pick word.Tiles o forms = let k = keysEnd (drop (length tilesFront) bytes) in
+        (shifted (length tilesFront) (k .0), tiles-end bytes o (k .0) (k .1))
     pick (word.Pair verb) o forms =
         let body = drop (length (pairFront verb)) bytes in
         let n = length-append (pairFront verb) body in

@@ -108,7 +108,8 @@ line-fine line e = long (ltb maxLine (length line)) refl e
     deep true f = absurd (omega (arith, f))
     deep false f = form (reading line) f
 
-    long : (b : Bool) → ltb maxLine (length line) ≡ b → 13 when b else 14 when tooDeep 0 line else 15 when not (isReading (reading line)) ≡ 0
+    long : (b : Bool) → ltb maxLine (length line) ≡ b
+        → 13 when b else 14 when tooDeep 0 line else 15 when not (isReading (reading line)) ≡ 0
         → (length line ≤ maxLine) × ((f : Form) × Reads line f)
     long true g f = absurd (omega (arith, f))
     long false g f = (ltb-false _ _ g, deep (tooDeep 0 line) f)

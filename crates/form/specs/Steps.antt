@@ -32,7 +32,8 @@ module _ (l : List ℕ) (i : ℕ) where
   unfolding tooDeep
   deep-here n h e = rw (drop-cons l i 0 h, lt-ltb _ _ e)
 
-  pub deep-later : (n : ℕ) → i < length l → openBehind n (getD l i 0) ≤ maxOpen → tooDeep n (drop i l) ≡ tooDeep (openBehind n (getD l i 0)) (drop (i + 1) l)
+  pub deep-later : (n : ℕ) → i < length l → openBehind n (getD l i 0) ≤ maxOpen
+      → tooDeep n (drop i l) ≡ tooDeep (openBehind n (getD l i 0)) (drop (i + 1) l)
   unfolding tooDeep
   deep-later n h e = rw (add-one i, drop-cons l i 0 h, le-ltb _ _ e)
 

@@ -1,4 +1,5 @@
--- The area of a form, from document 01's "Form line": nested calls of the four operations on lists of 256 places, and which refusal comes first.
+-- The area of a form, from document 01's "Form line": nested calls of the four operations on lists of 256 places, and which refusal
+-- comes first.
 use mathlib.Core.Bool.{Bool, false, cond}
 use mathlib.Core.List.{List, [], _∷_, map}
 use Prim.Native.Nat.{ℕ}
@@ -54,7 +55,8 @@ areaGiven refusal r = answer (refusal else r .number) [] (answerOf r)
 -- "`tiles` settles at 0"; "then the left operand before the right", each whole, and then the operation
 unfoldable pub formArea : Form → Answer (List ℕ)
 formArea (tiles runs) = areaGiven (keysRefusal runs) (simplifyOf (runEntries runs) 0 places)
-formArea (pair verb f g) = areaGiven (formArea f .number else formArea g .number) (operated verb (formArea f .value) (formArea g .value) places)
+formArea (pair verb f g) =
+    areaGiven (formArea f .number else formArea g .number) (operated verb (formArea f .value) (formArea g .value) places)
 
 -- the area of the form that was read; 15 where none was
 abbrev pub readArea : {line : List ℕ} → Dec ((f : Form) × Reads line f) → Answer (List ℕ)
@@ -64,7 +66,8 @@ readArea (no n) = record { number = 15; value = [] }
 -- "13, 14, 15" on the whole line, then what the form says
 unfoldable pub lineArea : List ℕ → Answer (List ℕ)
 lineArea line =
-    answer (13 when ltb maxLine (length line) else 14 when tooDeep 0 line else readArea (reading line) .number) [] (readArea (reading line) .value)
+    answer (13 when ltb maxLine (length line) else 14 when tooDeep 0 line else readArea (reading line) .number) []
+    (readArea (reading line) .value)
 
 -- the area in lent memory: as many places as the area has entries
 abbrev pub areaWritten : List ℕ → List ℕ → Lent ℕ

@@ -33,7 +33,8 @@ use Rattle.quadkey.specs.Theorems.{key-to-tile-to-key}
 use Rattle.tile_list.specs.List.{listRefusal, placesRefusal}
 
 -- a refused call has no list
-refused-given : (why : Refusal) (exit : List ℕ) (n : ℕ) (items : List ℕ) → numberOf why ≡ n → valued (count.Refused why) exit ≡ answer n [] items
+refused-given : (why : Refusal) (exit : List ℕ) (n : ℕ) (items : List ℕ) → numberOf why ≡ n
+    → valued (count.Refused why) exit ≡ answer n [] items
 refused-given why exit n items e = let p = positive why in rw (← e, p .1)
 
 refused-first : (why : Refusal) (n m : ℕ) → numberOf why ≡ n → numberOf why ≡ n else m
@@ -52,7 +53,8 @@ runs-are-entries (run ∷ runs) e =
     let p = else-zero (keyRefusal (keyOfRun run)) (keysRefusal runs) e in
     rw (key-is-entry (keyOfRun run) (p .0)) (runs-are-entries runs (p .1))
 
-too-many : (list memory : List ℕ) → allOf isEntry list ≡ true → length list ≤ maxEntries → length memory < length list → placesRefusal list memory ≡ 12
+too-many : (list memory : List ℕ) → allOf isEntry list ≡ true → length list ≤ maxEntries → length memory < length list
+    → placesRefusal list memory ≡ 12
 unfolding placesRefusal listRefusal
 too-many list memory e h k = rw (le-ltb _ _ h, e, lt-ltb _ _ k)
 
@@ -66,7 +68,8 @@ pub keys-fit : (runs : List (List ℕ)) (bytes : List ℕ) → KeysFirst runs []
 keys-fit runs bytes k = omega (arith, keys-few runs, sym (length-append (spaced runs) (closing ∷ [])) ∙ ap length (k .spelled))
 
 module _ (runs : List (List ℕ)) where
-  pub bad-key-area : (why : Refusal) (exit : List ℕ) → numberOf why ≡ keysRefusal runs → valued (count.Refused why) exit ≡ formArea (tiles runs)
+  pub bad-key-area : (why : Refusal) (exit : List ℕ) → numberOf why ≡ keysRefusal runs
+      → valued (count.Refused why) exit ≡ formArea (tiles runs)
   unfolding formArea
   bad-key-area why exit e = refused-given why exit _ _ (refused-first why _ _ e)
 
@@ -81,7 +84,8 @@ module _ (runs : List (List ℕ)) where
         call-valued r exit _ e _ _ (simplify-gives 0 (runEntries runs) memory)
         ∙ (simplify-alike (runEntries runs) memory places (h ∙ sym (length-replicate {A = ℕ} formPlaces 0)) ∙ sym tiles-area)
 
-    pub many-keys-area : (exit : List ℕ) → formPlaces < length runs → length runs ≤ maxEntries → valued (count.Refused Memory) exit ≡ formArea (tiles runs)
+    pub many-keys-area : (exit : List ℕ) → formPlaces < length runs → length runs ≤ maxEntries
+        → valued (count.Refused Memory) exit ≡ formArea (tiles runs)
     unfolding formArea
     many-keys-area exit h k =
         let l = length-map runs (λ (r : List ℕ). keyEntry (keyOfRun r)) in
@@ -100,7 +104,8 @@ module _ (verb : Verb) (f g : Form) where
       let n = ap (λ (r : Answer (List ℕ)). r .number) e in
       refused-given why exit _ _ (refused-first why _ _ (refused-first why _ _ n))
 
-  pub right-refused-area : (i : ℕ) (why : Refusal) (a b exit : List ℕ) → valued (count.Counted i) a ≡ formArea f → valued (count.Refused why) b ≡ formArea g
+  pub right-refused-area : (i : ℕ) (why : Refusal) (a b exit : List ℕ) → valued (count.Counted i) a ≡ formArea f
+      → valued (count.Refused why) b ≡ formArea g
       → valued (count.Refused why) exit ≡ formArea (pair verb f g)
   unfolding formArea
   right-refused-area i why a b exit e h =

@@ -26,7 +26,8 @@ abbrev pub Within : Count → List ℕ → Type 0
 Within r memory = countCase r .value ≤ length memory
 
 -- two calls that give the same, after the same refusals before them
-same-given : (refusal : ℕ) (r s : Lent ℕ) (n : ℕ) (items : List ℕ) → Gives r n items → Gives s n items → areaGiven refusal r ≡ areaGiven refusal s
+same-given : (refusal : ℕ) (r s : Lent ℕ) (n : ℕ) (items : List ℕ) → Gives r n items → Gives s n items
+    → areaGiven refusal r ≡ areaGiven refusal s
 same-given refusal r s n items a b =
     ap₂ (λ (k : ℕ) (l : List ℕ). answer (refusal else k) [] l) (a .number ∙ sym (b .number)) (a .front ∙ sym (b .front))
 
@@ -44,7 +45,8 @@ module _ (r : Count) (exit : List ℕ) (c : Lent ℕ) (e : left r exit ≡ c) (n
 
   pub call-valued : valued r exit ≡ areaGiven 0 c
   call-valued =
-      ap₂ (λ (k : ℕ) (l : List ℕ). record { number = k; value = l }) (ap (λ (l : Lent ℕ). l .number) e ∙ a .number) (ap answerOf e ∙ a .front)
+      ap₂ (λ (k : ℕ) (l : List ℕ). record { number = k; value = l }) (ap (λ (l : Lent ℕ). l .number) e ∙ a .number)
+      (ap answerOf e ∙ a .front)
       ∙ (parts n items ∙ sym (given-items c n items a))
     where
       parts : (n : ℕ) (items : List ℕ) → record { number = n; value = answer n [] items .value } ≡ answer n [] items
@@ -62,7 +64,8 @@ operatedEntries Plus a b = unionEntries a b
 operatedEntries Both a b = commonEntries a b
 operatedEntries Minus a b = differenceEntries a b
 
-pub operated-gives : (verb : Verb) (a b memory : List ℕ) → Gives (operated verb a b memory) (operatedRefusal verb a b memory) (operatedEntries verb a b)
+pub operated-gives : (verb : Verb) (a b memory : List ℕ)
+    → Gives (operated verb a b memory) (operatedRefusal verb a b memory) (operatedEntries verb a b)
 operated-gives Plus a b memory = listed-gives (pairPlacesRefusal a b memory) (a ++ b) (unionEntries a b) memory
 operated-gives Both a b memory = listed-gives (pairPlacesRefusal a b memory) (a ++ b) (commonEntries a b) memory
 operated-gives Minus a b memory = lent-gives (pairRefusal a b else short (differenceEntries a b) memory) (differenceEntries a b) memory
@@ -82,7 +85,8 @@ refused-alike Plus a b m k e = rw e
 refused-alike Both a b m k e = rw e
 refused-alike Minus a b m k e = rw e
 
-pub operated-alike : (verb : Verb) (a b m k : List ℕ) → length m ≡ length k → areaGiven 0 (operated verb a b m) ≡ areaGiven 0 (operated verb a b k)
+pub operated-alike : (verb : Verb) (a b m k : List ℕ) → length m ≡ length k
+    → areaGiven 0 (operated verb a b m) ≡ areaGiven 0 (operated verb a b k)
 operated-alike verb a b m k e =
     same-given 0 (operated verb a b m) (operated verb a b k) (operatedRefusal verb a b k) (operatedEntries verb a b)
     (subst (λ (n : ℕ). Gives (operated verb a b m) n (operatedEntries verb a b)) (refused-alike verb a b m k e)

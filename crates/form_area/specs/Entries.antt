@@ -29,7 +29,8 @@ use Rattle.tile.specs.declared.Tile.{Tile}
 
 -- what is known of the keys when all are entered: none is bad, their count, and the entries if there were places for all
 abbrev pub Entered : Count → List (List ℕ) → List ℕ → Type 0
-Entered (count.Counted n) runs entries = (keysRefusal runs ≡ 0) × (n ≡ length runs) × (n ≤ length entries → take n entries ≡ runEntries runs)
+Entered (count.Counted n) runs entries =
+    (keysRefusal runs ≡ 0) × (n ≡ length runs) × (n ≤ length entries → take n entries ≡ runEntries runs)
 Entered (count.Refused why) runs entries = numberOf why ≡ keysRefusal runs
 
 -- one key more: bad, or its entry in place n if there is one
@@ -109,7 +110,8 @@ module _ (at : ℕ) (body : List ℕ) where
   next-key (run ∷ more) k h =
       let first = keys-first-key run more [] (drop at body) k in
       let long = first-key run (spaced more ++ closing ∷ []) (drop at body) first in
-      let here = one-key run (take (length run) (drop 1 (drop at body))) (spaced more ++ closing ∷ []) (drop (suc (length run)) (drop at body)) (drop at body)
+      let here = one-key run (take (length run) (drop 1 (drop at body))) (spaced more ++ closing ∷ [])
+      (drop (suc (length run)) (drop at body)) (drop at body)
       first (key-first (drop at body) (length run) long) in
       let e : drop 1 (drop at body) ≡ drop (at + 1) body = drop-drop 1 at body in
       let f : drop (suc (length run)) (drop at body) ≡ drop (at + suc (length run)) body = drop-drop (suc (length run)) at body in
@@ -125,13 +127,15 @@ module _ (at : ℕ) (body : List ℕ) where
 
   no-next-key : (rest : List (List ℕ)) → KeysFirst rest [] (drop at body) → length body ≤ at + 1 → rest ≡ []
   no-next-key [] k h = refl
-  no-next-key (run ∷ more) k h = absurd (omega (arith, keys-long (run ∷ more) (drop at body) k, spaced-long run more, length-drop at body, h))
+  no-next-key (run ∷ more) k h =
+      absurd (omega (arith, keys-long (run ∷ more) (drop at body) k, spaced-long run more, length-drop at body, h))
 
 one-fine : (run : List ℕ) → keyRefusal (keyOfRun run) ≡ 0 → keysRefusal (run ∷ []) ≡ 0
 unfolding keysRefusal
 one-fine run f = rw f
 
-one-bad : (why : Refusal) (run : List ℕ) (runs : List (List ℕ)) → numberOf why ≡ keyRefusal (keyOfRun run) → keysRefusal (run ∷ runs) ≡ numberOf why
+one-bad : (why : Refusal) (run : List ℕ) (runs : List (List ℕ)) → numberOf why ≡ keyRefusal (keyOfRun run)
+    → keysRefusal (run ∷ runs) ≡ numberOf why
 unfolding keysRefusal
 one-bad why run runs f = stands why (keysRefusal runs) f
 
@@ -163,7 +167,8 @@ module _ (at n : ℕ) (entries body : List ℕ) (runs : List (List ℕ)) (e : En
   pub bad-entered : (k : NextKey at body (e .rest)) (why : Refusal) (after : List ℕ) → Kept (check.Refused why) (k .run) n entries after
       → Entered (count.Refused why) runs after
   bad-entered k why after f =
-      sym (sym (ap keysRefusal (all-again k)) ∙ (keys-refusal-append (e .done) (k .run ∷ k .more) (e .fine) ∙ one-bad why (k .run) (k .more) f))
+      sym (sym (ap keysRefusal (all-again k))
+      ∙ (keys-refusal-append (e .done) (k .run ∷ k .more) (e .fine) ∙ one-bad why (k .run) (k .more) f))
 
   pub all-entered : length body ≤ at + 1 → Entered (count.Counted n) runs entries
   all-entered h =
@@ -193,7 +198,8 @@ module _ (at n : ℕ) (entries body : List ℕ) (b : Begun at n entries body) (h
     pub key-begun : (c : Check) (after : List ℕ) → Kept c (take (at + r - (at + 1)) (drop (at + 1) body)) n entries after → c ≡ check.Fine
         → Begun (at + r) (n + 1) after body
     key-begun c after k f =
-        let l = subst (λ (x : Check). Kept x (coming .run) n entries after) f (subst (λ (x : List ℕ). Kept c x n entries after) coming-part k) in (
+        let l = subst (λ (x : Check). Kept x (coming .run) n entries after) f
+        (subst (λ (x : List ℕ). Kept c x n entries after) coming-part k) in (
           b .0,
           b .1,
           subst (λ (x : ℕ). Entering (at + x) (n + 1) after body (b .0)) (sym coming-length)
@@ -204,5 +210,6 @@ module _ (at n : ℕ) (entries body : List ℕ) (b : Begun at n entries body) (h
         → Kept c (take (at + r - (at + 1)) (drop (at + 1) body)) n entries after → c ≡ check.Refused why
         → (others : List (List ℕ)) → KeysFirst others [] body → Entered (count.Refused why) others after
     key-refused c why after k f =
-        let l = subst (λ (x : Check). Kept x (coming .run) n entries after) f (subst (λ (x : List ℕ). Kept c x n entries after) coming-part k) in
+        let l = subst (λ (x : Check). Kept x (coming .run) n entries after) f
+        (subst (λ (x : List ℕ). Kept c x n entries after) coming-part k) in
         whichever (count.Refused why) after body (b .0) (b .1) (bad-entered at n entries body (b .0) (b .2) coming why after l)

@@ -25,7 +25,8 @@ given-again n r = go (n else r .number) (answerOf r)
 area-again : (f : Form) → answer (formArea f .number) [] (formArea f .value) ≡ formArea f
 unfolding formArea
 area-again (tiles runs) = given-again (keysRefusal runs) (simplifyOf (runEntries runs) 0 places)
-area-again (pair verb f g) = given-again (formArea f .number else formArea g .number) (operated verb (formArea f .value) (formArea g .value) places)
+area-again (pair verb f g) =
+    given-again (formArea f .number else formArea g .number) (operated verb (formArea f .value) (formArea g .value) places)
 
 read-area : (line : List ℕ) (f : Form) → Reads line f → (d : Dec ((g : Form) × Reads line g)) → readArea d ≡ formArea f
 read-area line f r (yes s) = ap formArea (one-reading line (s .0) f (s .1) r)
@@ -41,7 +42,8 @@ module _ (line : List ℕ) where
           → answer (13 when a else 14 when b else readArea (reading line) .number) [] (readArea (reading line) .value) ≡ formArea f
       pick true b e = absurd (omega (arith, e))
       pick false true e = absurd (omega (arith, e))
-      pick false false e = let s = read-area line f r (reading line) in ap (λ (a : Answer (List ℕ)). answer (a .number) [] (a .value)) s ∙ area-again f
+      pick false false e = let s = read-area line f r (reading line) in
+          ap (λ (a : Answer (List ℕ)). answer (a .number) [] (a .value)) s ∙ area-again f
 
   pub line-refused : (n : ℕ) → lineRefusal line ≡ suc n → lineArea line .number ≡ suc n
   unfolding lineArea lineRefusal wholeRefusal isReading

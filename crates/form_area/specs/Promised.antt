@@ -73,7 +73,8 @@ module _ (verb : Verb) (line : List ℕ) (o : Opened (word.Pair verb) line) wher
   pub form-of-pair : (r : Count) (memory : List ℕ) → OfPair verb forms r memory → OfForm line r memory
   form-of-pair r memory a = record {
     within = a .within;
-    area = λ f reads. let k = form-pair verb forms line o f [] (at-front line f reads) in a .area (k .0 .0) (k .0 .1) (k .2) ∙ ap formArea (sym (k .1));
+    area = λ f reads. let k = form-pair verb forms line o f [] (at-front line f reads) in
+        a .area (k .0 .0) (k .0 .1) (k .2) ∙ ap formArea (sym (k .1));
   }
 
 pub some-word : (line : List ℕ) → Opened word.Other line → Spelled line → ⊥

@@ -28,4 +28,5 @@ last n (pair verb f g) = n + size f + size g
 -- the calls of a form, where n calls were made before
 unfoldable pub calls : ℕ → Form → Build
 calls n (tiles runs) = call (settling (own (runEntries runs))) ∷ []
-calls n (pair verb f g) = calls n f ++ (calls (n + size f) g ++ (call (operation verb (earlier (last n f)) (earlier (last (n + size f) g))) ∷ []))
+calls n (pair verb f g) =
+    calls n f ++ (calls (n + size f) g ++ (call (operation verb (earlier (last n f)) (earlier (last (n + size f) g))) ∷ []))

@@ -1,5 +1,5 @@
--- A line's answer is an answer of a build: the area of an accepted line is the answer of the last call of its form's build, so demand 3 holds of it, and it
--- is the settled list of the set that the plain account keeps.
+-- A line's answer is an answer of a build: the area of an accepted line is the answer of the last call of its form's build, so demand
+-- 3 holds of it, and it is the settled list of the set that the plain account keeps.
 use mathlib.Core.Path.{_≡_, refl, sym, ap, _∙_, subst}
 use mathlib.Core.List.{List, []}
 use Prim.Native.Nat.{ℕ, zero, suc}

@@ -34,5 +34,6 @@ refused-text : (n k : ℕ) (entries : List ℕ) → n ≡ suc k → answerText n
 refused-text zero k entries e = absurd (omega (arith, e))
 refused-text (suc n) k entries e = refl
 
-pub the-refusal-printed : (line : List ℕ) (k : ℕ) → lineArea line .number ≡ suc k → printed (lineArea line) ≡ refusalText (lineArea line .number)
+pub the-refusal-printed : (line : List ℕ) (k : ℕ) → lineArea line .number ≡ suc k
+    → printed (lineArea line) ≡ refusalText (lineArea line .number)
 the-refusal-printed line k e = refused-text (lineArea line .number) k (lineArea line .value) e

@@ -47,7 +47,8 @@ pub record Gave (rs : List (Lent ℕ)) (i : ℕ) (list : List ℕ) : Type 0 wher
 pub given-zero : (n : ℕ) (r : Lent ℕ) → areaGiven n r .number ≡ 0 → (n ≡ 0) × (r .number ≡ 0) × (areaGiven n r .value ≡ answerOf r)
 given-zero n r e = go n (r .number) (answerOf r) e
   where
-    go : (n m : ℕ) (items : List ℕ) → answer (n else m) [] items .number ≡ 0 → (n ≡ 0) × (m ≡ 0) × (answer (n else m) [] items .value ≡ items)
+    go : (n m : ℕ) (items : List ℕ) → answer (n else m) [] items .number ≡ 0
+        → (n ≡ 0) × (m ≡ 0) × (answer (n else m) [] items .value ≡ items)
     go zero zero items e = (refl, refl, refl)
     go zero (suc m) items e = absurd (omega (arith, e))
     go (suc n) m items e = absurd (omega (arith, e))
@@ -62,7 +63,8 @@ operated-performed Plus rs i j = refl
 operated-performed Both rs i j = refl
 operated-performed Minus rs i j = refl
 
-pub form-gave : (f : Form) (rs : List (Lent ℕ)) → formArea f .number ≡ 0 → Gave (run rs (calls (length rs) f)) (last (length rs) f) (formArea f .value)
+pub form-gave : (f : Form) (rs : List (Lent ℕ)) → formArea f .number ≡ 0
+    → Gave (run rs (calls (length rs) f)) (last (length rs) f) (formArea f .value)
 unfolding formArea calls last inTurn
 form-gave (tiles runs) rs e =
     let r = simplifyOf (runEntries runs) 0 places in
@@ -77,7 +79,8 @@ form-gave (pair verb f g) rs e =
     let rs₁ = run rs (calls n f) in
     let rs₂ = run rs₁ (calls (n + size f) g) in
     let l₁ : length rs₁ ≡ n + size f = turns-length comesBack rs (calls n f) ∙ ap (λ (m : ℕ). n + m) (calls-count n f) in
-    let l₂ : length rs₂ ≡ n + size f + size g = turns-length comesBack rs₁ (calls (n + size f) g) ∙ ap₂ (λ (a b : ℕ). a + b) l₁ (calls-count (n + size f) g) in
+    let l₂ : length rs₂ ≡ n + size f + size g =
+    turns-length comesBack rs₁ (calls (n + size f) g) ∙ ap₂ (λ (a b : ℕ). a + b) l₁ (calls-count (n + size f) g) in
     let r = operated verb (formArea f .value) (formArea g .value) places in
     let z = given-zero (formArea f .number else formArea g .number) r e in
     let y = else-zero (formArea f .number) (formArea g .number) (z .0) in

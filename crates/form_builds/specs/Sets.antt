@@ -1,5 +1,5 @@
--- The set of zoom-29 tiles that a form's words say: those of the keys' tiles, in either form's set, in both, or in the first only. And that an accepted
--- form's area is the settled list of it.
+-- The set of zoom-29 tiles that a form's words say: those of the keys' tiles, in either form's set, in both, or in the first only. And
+-- that an accepted form's area is the settled list of it.
 use mathlib.Core.Path.{_≡_, refl, sym, ap₂, _∙_}
 use mathlib.Core.Bool.{Bool, not, _&&_, _||_}
 use mathlib.Core.List.{List}
@@ -30,7 +30,8 @@ unfoldable pub formSet : Form → ℕ → ℕ → Bool
 formSet (tiles runs) X Y = groundOf (runEntries runs) X Y
 formSet (pair verb f g) X Y = kept-by verb (formSet f X Y) (formSet g X Y)
 
-operated-set : (verb : Verb) (a b : List ℕ) → operatedEntries verb a b ≡ settledEntries (λ X Y. kept-by verb (groundOf a X Y) (groundOf b X Y))
+operated-set : (verb : Verb) (a b : List ℕ)
+    → operatedEntries verb a b ≡ settledEntries (λ X Y. kept-by verb (groundOf a X Y) (groundOf b X Y))
 operated-set Plus a b = refl
 operated-set Both a b = refl
 operated-set Minus a b = refl
@@ -59,5 +60,6 @@ area-of-set (pair verb f g) e =
     let y = else-zero (formArea f .number) (formArea g .number) (z .0) in
     z .2 ∙ (accepted-items r _ _ (operated-gives verb (formArea f .value) (formArea g .value) places) (z .1)
     ∙ (operated-set verb (formArea f .value) (formArea g .value)
-    ∙ (ap₂ (λ (a b : List ℕ). settledEntries (λ X Y. kept-by verb (groundOf a X Y) (groundOf b X Y))) (area-of-set f (y .0)) (area-of-set g (y .1))
+    ∙ (ap₂ (λ (a b : List ℕ). settledEntries (λ X Y. kept-by verb (groundOf a X Y) (groundOf b X Y))) (area-of-set f (y .0))
+    (area-of-set g (y .1))
     ∙ settled-pair verb (formSet f) (formSet g))))

@@ -19,7 +19,8 @@ use Rattle.form_line.specs.Stores.{written-counted, written-not}
 
 -- a list that was asked for in memory that has room for it
 module _ (r : Count) (items memory after : List ℕ) (h : length items ≤ length memory) where
-  given-list : {k : ℕ} (n : ℕ) → left r after ≡ written n items memory → r ≡ Counted k → (n ≡ 0) × (k ≡ length items) × (take k after ≡ items)
+  given-list : {k : ℕ} (n : ℕ) → left r after ≡ written n items memory → r ≡ Counted k
+      → (n ≡ 0) × (k ≡ length items) × (take k after ≡ items)
   given-list {k} zero e p =
       let w = written-counted items memory after refl (rw p at e) in
       (refl, w .0, rw (w .1) (take-at items (drop (length items) memory) k (sym (w .0))))
@@ -34,7 +35,8 @@ module _ (r : Count) (line memory after : List ℕ) (room : length memory ≡ fo
   fits : length (lineArea line .value) ≤ length memory
   fits = omega (arith, line-fits line .few, room)
 
-  pub area-counted : {k : ℕ} → r ≡ Counted k → (lineArea line .number ≡ 0) × (k ≡ length (lineArea line .value)) × (take k after ≡ lineArea line .value)
+  pub area-counted : {k : ℕ} → r ≡ Counted k
+      → (lineArea line .number ≡ 0) × (k ≡ length (lineArea line .value)) × (take k after ≡ lineArea line .value)
   area-counted p = given-list r (lineArea line .value) memory after fits (lineArea line .number) e p
 
   pub area-within : {k : ℕ} → length after ≡ length memory → r ≡ Counted k → k ≤ length after

@@ -28,14 +28,16 @@ same-digits zero g n h k = absurd (omega arith)
 same-digits (suc f) zero n h k = absurd (omega arith)
 same-digits (suc f) (suc g) n h k = pick (decLt n 10) (same-digits f g (n / 10))
   where
-    pick : Dec (n < 10) → (n / 10 < f → n / 10 < g → decimalWithin f (n / 10) ≡ decimalWithin g (n / 10)) → decimalWithin (suc f) n ≡ decimalWithin (suc g) n
+    pick : Dec (n < 10) → (n / 10 < f → n / 10 < g → decimalWithin f (n / 10) ≡ decimalWithin g (n / 10))
+        → decimalWithin (suc f) n ≡ decimalWithin (suc g) n
     pick (yes l) below = rw (lt-ltb n 10 l)
     pick (no l) below = let m : 10 ≤ n = omega arith in rw (le-ltb n 10 m, below (omega arith) (omega arith))
 
 -- the last digit stands behind those of a tenth
 pub decimal-more : (n : ℕ) → 10 ≤ n → decimal n ≡ decimal (n / 10) ++ ((48 + n % 10) ∷ [])
 unfolding decimal decimalWithin
-decimal-more n h = rw (le-ltb n 10 h) (ap (λ (l : List ℕ). l ++ ((48 + n % 10) ∷ [])) (same-digits n (suc (n / 10)) (n / 10) (omega arith) (omega arith)))
+decimal-more n h = rw (le-ltb n 10 h)
+    (ap (λ (l : List ℕ). l ++ ((48 + n % 10) ∷ [])) (same-digits n (suc (n / 10)) (n / 10) (omega arith) (omega arith)))
 
 pub decimal-tenth : (n : ℕ) → 10 ≤ n → length (decimal n) ≡ length (decimal (n / 10)) + 1
 decimal-tenth n h = ap length (decimal-more n h) ∙ length-append (decimal (n / 10)) ((48 + n % 10) ∷ [])
@@ -68,7 +70,8 @@ unfolding decimalWithin saysBehind
 says-within zero n h = absurd (omega arith)
 says-within (suc fuel) n h = pick (decLt n 10) (says-within fuel (n / 10))
   where
-    pick : Dec (n < 10) → (n / 10 < fuel → saysBehind 0 (decimalWithin fuel (n / 10)) ≡ n / 10) → saysBehind 0 (decimalWithin (suc fuel) n) ≡ n
+    pick : Dec (n < 10) → (n / 10 < fuel → saysBehind 0 (decimalWithin fuel (n / 10)) ≡ n / 10)
+        → saysBehind 0 (decimalWithin (suc fuel) n) ≡ n
     pick (yes l) below = rw (lt-ltb n 10 l) (omega arith)
     pick (no l) below =
         let m : 10 ≤ n = omega arith in

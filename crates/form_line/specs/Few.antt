@@ -8,7 +8,8 @@ use native.Mathlib.Omega.{arith}
 use lib.Dec.{ltb}
 use lib.ListN.{length, length-append, length-map, length-replicate}
 use borrow.Author.Tests.{ltb-false}
-use Rattle.area.specs.Area.{tilesOf, groundOf, settledEntries, pairRefusal, pairPlacesRefusal, unionEntries, commonEntries, differenceEntries}
+use Rattle.area.specs.Area.{tilesOf, groundOf, settledEntries, pairRefusal, pairPlacesRefusal, unionEntries, commonEntries}
+use Rattle.area.specs.Area.{differenceEntries}
 use Rattle.area.specs.Grounds.{simplify-entries, listed-covers}
 use Rattle.area.specs.Pairs.{union-covers, common-covers, Shared, of-first, of-second, shared-when}
 use Rattle.area.specs.Settled.{settled-entries-settled}
@@ -50,7 +51,8 @@ settled-fits : (G : ℕ → ℕ → Bool) → length (settledEntries G) ≤ form
 settled-fits G h = record { entries = settled-entries-settled G .0; few = h }
 
 -- the settled list of what lists cover, and no more entries than those have
-covered-fits : {G : ℕ → ℕ → Bool} {P : Tile → Type 0} → Cover maxZoom G P → (list : List ℕ) → ((t : Tile) → P t → List·Memᴰ t (tilesOf list))
+covered-fits : {G : ℕ → ℕ → Bool} {P : Tile → Type 0} → Cover maxZoom G P → (list : List ℕ)
+    → ((t : Tile) → P t → List·Memᴰ t (tilesOf list))
     → length list ≤ formPlaces → Fits (settledEntries G)
 covered-fits {G} C list all h =
     settled-fits G (omega (
@@ -110,7 +112,8 @@ module _ (a b : List ℕ) (f : Fits a) (g : Fits b) where
       (λ t k. of-either t (shared-when (listed a) (listed b) t k)) (both-few e)
 
   difference-fits : (n : ℕ) → n else short (differenceEntries a b) places ≡ 0 → Fits (differenceEntries a b)
-  difference-fits n e = settled-fits (λ X Y. groundOf a X Y && not (groundOf b X Y)) (room (length (differenceEntries a b)) (else-zero n _ e .1))
+  difference-fits n e =
+      settled-fits (λ X Y. groundOf a X Y && not (groundOf b X Y)) (room (length (differenceEntries a b)) (else-zero n _ e .1))
 
   operated-fits : (refusal : ℕ) (verb : Verb) → Fits (areaGiven refusal (operated verb a b places) .value)
   operated-fits refusal Plus = given-fits refusal _ _ (unionEntries a b) (operated-gives Plus a b places) union-fits
@@ -125,7 +128,8 @@ form-fits (tiles runs) =
     given-fits (keysRefusal runs) _ _ _
     (simplify-gives 0 (runEntries runs) places)
     (keys-fit (runEntries runs))
-form-fits (pair verb f g) = operated-fits (formArea f .value) (formArea g .value) (form-fits f) (form-fits g) (formArea f .number else formArea g .number) verb
+form-fits (pair verb f g) =
+    operated-fits (formArea f .value) (formArea g .value) (form-fits f) (form-fits g) (formArea f .number else formArea g .number) verb
 
 -- so has the list of a line
 pub line-fits : (line : List ℕ) → Fits (lineArea line .value)

@@ -44,7 +44,8 @@ answer-number : {A : Type 0} (n : ℕ) (none v : A) → answer n none v .number 
 answer-number zero none v = refl
 answer-number (suc n) none v = refl
 
-given-number : (refusal n : ℕ) (r : Lent ℕ) (items : List ℕ) → Gives r n items → IsNumber refusal → IsNumber n → IsNumber (areaGiven refusal r .number)
+given-number : (refusal n : ℕ) (r : Lent ℕ) (items : List ℕ) → Gives r n items → IsNumber refusal → IsNumber n
+    → IsNumber (areaGiven refusal r .number)
 given-number refusal n r items g h k =
     omega (arith, answer-number (refusal else r .number) [] (answerOf r), else-number refusal (r .number) h (omega (arith, g .number, k)))
 
@@ -82,9 +83,12 @@ pair-number a b =
 
 pair-places-number : (a b : List ℕ) → IsNumber (pairPlacesRefusal a b places)
 unfolding pairPlacesRefusal
-pair-places-number a b = else-number (pairRefusal a b) (12 when ltb (length places) (length a + length b)) (pair-number a b) (room-number (length a + length b))
+pair-places-number a b =
+    else-number (pairRefusal a b) (12 when ltb (length places) (length a + length b)) (pair-number a b)
+    (room-number (length a + length b))
 
-operated-number : (refusal : ℕ) → IsNumber refusal → (verb : Verb) (a b : List ℕ) → IsNumber (areaGiven refusal (operated verb a b places) .number)
+operated-number : (refusal : ℕ) → IsNumber refusal → (verb : Verb) (a b : List ℕ)
+    → IsNumber (areaGiven refusal (operated verb a b places) .number)
 operated-number refusal h Plus a b =
     given-number refusal (pairPlacesRefusal a b places) _ (unionEntries a b) (operated-gives Plus a b places) h (pair-places-number a b)
 operated-number refusal h Both a b =
@@ -101,7 +105,8 @@ form-number (tiles runs) =
     given-number (keysRefusal runs) (placesRefusal list places) _ (entriesInOrder (simplified maxZoom 0 (listed list)))
     (simplify-gives 0 list places) (keys-number runs) (places-number list)
 form-number (pair verb f g) =
-    operated-number (formArea f .number else formArea g .number) (else-number (formArea f .number) (formArea g .number) (form-number f) (form-number g))
+    operated-number (formArea f .number else formArea g .number)
+    (else-number (formArea f .number) (formArea g .number) (form-number f) (form-number g))
     verb (formArea f .value) (formArea g .value)
 
 line-number : (line : List ℕ) → IsNumber (lineArea line .number)

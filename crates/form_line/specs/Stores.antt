@@ -38,7 +38,8 @@ nothing-stored at memory = record { behind = omega arith; memory = refl }
 pub one-stored : (b at : ℕ) (memory : List ℕ) → Stored (b ∷ []) at (at + 1) memory (set memory at b)
 one-stored b at memory = record { behind = refl; memory = refl }
 
-pub stored-behind : {a b : List ℕ} {at mid end : ℕ} {before between after : List ℕ} → Stored a at mid before between → Stored b mid end between after
+pub stored-behind : {a b : List ℕ} {at mid end : ℕ} {before between after : List ℕ} → Stored a at mid before between
+    → Stored b mid end between after
     → Stored (a ++ b) at end before after
 stored-behind {a} {b} {at} {mid} {end} {before} {between} {after} s t = record {
   behind = omega (arith, s .behind, t .behind, length-append a b);
@@ -60,14 +61,16 @@ pub part-length : (at : ℕ) (memory : List ℕ) → length (partFrom at memory)
 part-length at memory = rw (rest-part memory at) (length-drop at memory)
 
 -- what a call wrote to the front of that part
-pub part-stored : (text memory part : List ℕ) {at end : ℕ} → at + length text ≤ length memory → part ≡ text ++ drop (length text) (partFrom at memory)
+pub part-stored : (text memory part : List ℕ) {at end : ℕ} → at + length text ≤ length memory
+    → part ≡ text ++ drop (length text) (partFrom at memory)
     → end ≡ at + length text → Stored text at end memory (withPart at memory part)
 part-stored text memory part {at} {end} h e k =
     let past : length (drop at memory) ≤ length memory - at = omega (arith, length-drop at memory) in
     let none : drop (length memory - at) (drop at memory) ≡ [] = drop-of-length-le (drop at memory) past in
     record {
       behind = k;
-      memory = rw (e, rest-part memory at, none, append-nil, drop-drop (length text) at memory, ← append-assoc) (sym (sets-eq text memory at h));
+      memory = rw (e, rest-part memory at, none, append-nil, drop-drop (length text) at memory, ← append-assoc)
+          (sym (sets-eq text memory at h));
     }
 
 -- all that was stored, from the front on
@@ -87,16 +90,19 @@ pub stored-all : (text : List ℕ) {at end : ℕ} (i : ℕ) {before after : List
 stored-all text i e s = stored-same (rw (e, take-length text)) s
 
 -- a call that stored its text from the front on
-pub stored-written : {text : List ℕ} {end k : ℕ} {before after : List ℕ} → Stored text 0 end before after → k ≡ length text → length text ≤ length before
+pub stored-written : {text : List ℕ} {end k : ℕ} {before after : List ℕ} → Stored text 0 end before after → k ≡ length text
+    → length text ≤ length before
     → left (count.Counted k) after ≡ written 0 text before
 stored-written {text} {end} {k} {before} {after} s e h = written-done text before after refl h e (stored-front s h)
 
 -- what a call that writes a list says, where nothing but its memory can refuse it
 module _ {k : ℕ} (items memory after : List ℕ) (fine : k ≡ 0) where
-  pub written-counted : {n : ℕ} → left (count.Counted n) after ≡ written k items memory → (n ≡ length items) × (after ≡ items ++ drop (length items) memory)
+  pub written-counted : {n : ℕ} → left (count.Counted n) after ≡ written k items memory
+      → (n ≡ length items) × (after ≡ items ++ drop (length items) memory)
   written-counted {n} e = pick (ltb (length memory) (length items)) (rw fine at e)
     where
-      pick : (b : Bool) → left (count.Counted n) after ≡ lent (12 when b) items memory → (n ≡ length items) × (after ≡ items ++ drop (length items) memory)
+      pick : (b : Bool) → left (count.Counted n) after ≡ lent (12 when b) items memory
+          → (n ≡ length items) × (after ≡ items ++ drop (length items) memory)
       pick true q = let z : _≡_ {A = ℕ} 0 12 = ap (λ (l : Lent ℕ). l .number) q in absurd (omega arith)
       pick false q = (ap (λ (l : Lent ℕ). l .value) q, ap (λ (l : Lent ℕ). l .memory) q)
 
@@ -106,7 +112,8 @@ module _ {k : ℕ} (items memory after : List ℕ) (fine : k ≡ 0) where
   pub written-not : (why : Refusal) → left (count.Refused why) after ≡ written k items memory → length memory < length items
   written-not why e = pick (ltb (length memory) (length items)) refl (rw fine at e)
     where
-      pick : (b : Bool) → ltb (length memory) (length items) ≡ b → left (count.Refused why) after ≡ lent (12 when b) items memory → length memory < length items
+      pick : (b : Bool) → ltb (length memory) (length items) ≡ b → left (count.Refused why) after ≡ lent (12 when b) items memory
+          → length memory < length items
       pick true p q = ltb-true _ _ p
       pick false p q = absurd (never-zero why (ap (λ (l : Lent ℕ). l .number) q))
 

@@ -30,7 +30,8 @@ pub entry-found : {r : TileAnswer} {t : Tile} (n : ℕ) → tileCase r ≡ entry
 entry-found {r} {t} n e p = answer-found (entryRefusal n) noTile (entryTile n) t (sym (ap tileCase p) ∙ e) .1
 
 pub entry-not-refused : {r : TileAnswer} {why : Refusal} (n : ℕ) → IsEntry n → tileCase r ≡ entryTileOf n → r ≡ Refused why → ⊥
-entry-not-refused {r} {why} n i e p = never-zero why (sym (answer-refused why (entryRefusal n) noTile (entryTile n) (sym (ap tileCase p) ∙ e)) ∙ i)
+entry-not-refused {r} {why} n i e p =
+    never-zero why (sym (answer-refused why (entryRefusal n) noTile (entryTile n) (sym (ap tileCase p) ∙ e)) ∙ i)
 
 shown-long : (key : List ℕ) → 0 < length key → keyShown key ≡ key
 shown-long [] h = absurd (omega arith)
@@ -83,7 +84,12 @@ pub keys-length-more : (list : List ℕ) (i : ℕ) → i < length list
     → length (keysText (take (i + 1) list)) ≡ length (keysText (take i list)) + (1 + length (entryShown (getD list i 0)))
 keys-length-more list i h =
     let g = ap length (keys-more list i h) in
-    omega (arith, g, length-append (keysText (take i list) ++ (space ∷ [])) (entryShown (getD list i 0)), length-append (keysText (take i list)) (space ∷ []))
+    omega (
+      arith,
+      g,
+      length-append (keysText (take i list) ++ (space ∷ [])) (entryShown (getD list i 0)),
+      length-append (keysText (take i list)) (space ∷ []),
+    )
 
 -- the first keys, and one more, are no longer than all
 pub keys-within : (list : List ℕ) (i : ℕ) → i < length list
@@ -115,7 +121,8 @@ first-stored {n} {d} at memory h e = rw e (stored-same (sym (decimal-digit n h))
 
 -- a space and a key behind the keys before it
 pub key-stored : (list : List ℕ) (i : ℕ) {at mid end : ℕ} {before between after : List ℕ} → i < length list
-    → Stored (keysText (take i list)) at mid before between → Stored (entryShown (getD list i 0)) (mid + 1) end (set between mid space) after
+    → Stored (keysText (take i list)) at mid before between
+    → Stored (entryShown (getD list i 0)) (mid + 1) end (set between mid space) after
     → Stored (keysText (take (i + 1) list)) at end before after
 key-stored list i {at} {mid} {end} {before} {between} {after} h s t =
     stored-same (sym (keys-more list i h)) (stored-behind (stored-behind s (one-stored space mid between)) t)
@@ -130,7 +137,12 @@ list-text list = ap (λ (l : List ℕ). opening ∷ l) (append-assoc (decimal (l
 pub list-length : (list : List ℕ) → length (listText list) ≡ 2 + length (decimal (length list)) + length (keysText list)
 list-length list =
     let counted = (opening ∷ []) ++ decimal (length list) in
-    omega (arith, ap length (list-text list), length-append (counted ++ keysText list) (closing ∷ []), length-append counted (keysText list))
+    omega (
+      arith,
+      ap length (list-text list),
+      length-append (counted ++ keysText list) (closing ∷ []),
+      length-append counted (keysText list),
+    )
 
 pub few-digits : (list : List ℕ) → Fits list → length list < 1000
 unfolding formPlaces

@@ -46,7 +46,8 @@ long-ended a b (x ∷ rest) h k =
     (long-ended (a ++ (x ∷ [])) (b ++ (x ∷ [])) rest (longer a x h) (longer b x k))
 
 -- the first bytes of a line so far that has as many already
-pub long-so-far : (n : ℕ) (a b rest : List ℕ) → n ≤ length a → n ≤ length b → take n a ≡ take n b → take n (soFar a rest) ≡ take n (soFar b rest)
+pub long-so-far : (n : ℕ) (a b rest : List ℕ) → n ≤ length a → n ≤ length b → take n a ≡ take n b
+    → take n (soFar a rest) ≡ take n (soFar b rest)
 unfolding soFar
 long-so-far n a b [] h k e = e
 long-so-far n a b (x ∷ rest) h k e =

@@ -7,7 +7,8 @@ use native.Mathlib.Decide.{decLe}
 use native.Mathlib.Omega.{arith}
 use lib.Dec.{eqb}
 use lib.ListN.{length, take, drop, set, length-append, length-drop, length-set}
-use lib.Seq.{sets, sets-eq, length-sets, set-out, drop-drop, drop-set-lt, take-suc-set, take-append-le, length-take-le, take-at, take-all, take-length}
+use lib.Seq.{sets, sets-eq, length-sets, set-out, drop-drop, drop-set-lt, take-suc-set, take-append-le, length-take-le, take-at, take-all}
+use lib.Seq.{take-length}
 use borrow.Author.Tests.{ltb-true, ltb-false}
 use Rattle.constants.specs.Limits.{maxLine}
 use Rattle.form.specs.Form.{newline}
@@ -35,7 +36,8 @@ byte-ready b s h = record {
 }
 
 line-ready : (s : Scan) → Ready s → Fits s → Ready (lineIn s)
-line-ready s h k = record { long = h .long; kept = omega arith; room = omega (arith, k, length-sets (s .out) (s .filled) (reply (lineOf s))) }
+line-ready s h k = record
+    { long = h .long; kept = omega arith; room = omega (arith, k, length-sets (s .out) (s .filled) (reply (lineOf s))) }
 
 -- one byte of the line more: as many bytes are kept as matter
 record ByteKept (b : ℕ) (s : Scan) : Type 0 where
@@ -60,7 +62,8 @@ byte-kept b s h = pick (decLe (suc (s .len)) (length (s .line)))
         let n : suc maxLine ≤ length (lineOf s) = omega (arith, l, k, h .long) in
         let n′ : suc maxLine ≤ length (lineOf s ++ (b ∷ [])) = omega (arith, n, length-append (lineOf s) (b ∷ [])) in
         record {
-          answers = λ rest. long-ended (lineOf s ++ (b ∷ [])) (lineOf s) rest (omega (arith, n′)) (omega (arith, n)) ∙ ap (λ (l : List ℕ). ended l rest) e;
+          answers = λ rest. long-ended (lineOf s ++ (b ∷ [])) (lineOf s) rest (omega (arith, n′)) (omega (arith, n))
+              ∙ ap (λ (l : List ℕ). ended l rest) e;
           line = λ rest.
               long-so-far (suc maxLine) (lineOf s ++ (b ∷ [])) (lineOf s) rest n′ n (take-append-le (suc maxLine) (lineOf s) (b ∷ []) n)
               ∙ ap (λ (l : List ℕ). take (suc maxLine) (soFar l rest)) e;
@@ -68,7 +71,8 @@ byte-kept b s h = pick (decLe (suc (s .len)) (length (s .line)))
 
 drop-sets : (text memory : List ℕ) (at n : ℕ) → at + length text ≤ n → drop n (sets memory at text) ≡ drop n memory
 drop-sets [] memory at n h = refl
-drop-sets (b ∷ text) memory at n h = drop-sets text (set memory at b) (suc at) n (omega (arith, h)) ∙ drop-set-lt n memory at b (omega (arith, h))
+drop-sets (b ∷ text) memory at n h =
+    drop-sets text (set memory at b) (suc at) n (omega (arith, h)) ∙ drop-set-lt n memory at b (omega (arith, h))
 
 line-printed : (s : Scan) → Ready s → Fits s → printedBy (lineIn s) ≡ printedBy s ++ reply (lineOf s)
 line-printed s h k =
@@ -83,7 +87,8 @@ pub record Scanned (bytes : List ℕ) (s r : Scan) : Type 0 where
   pub taken : ℕ
   pub within : taken ≤ length bytes
   pub next : r .next ≡ s .next + taken
-  -- what was to be printed with the answers of the lines that end in the bytes is what is to be printed with those of the bytes that are left
+  -- what was to be printed with the answers of the lines that end in the bytes is what is to be printed with those of the bytes that
+  -- are left
   pub answers : printedBy s ++ ended (lineOf s) bytes ≡ printedBy r ++ ended (lineOf r) (drop taken bytes)
   pub line : take (suc maxLine) (soFar (lineOf s) bytes) ≡ take (suc maxLine) (soFar (lineOf r) (drop taken bytes))
   pub more : s .filled ≤ r .filled
@@ -94,7 +99,8 @@ pub record Scanned (bytes : List ℕ) (s r : Scan) : Type 0 where
   pub first : taken ≡ 0 → r .filled ≡ s .filled
   pub full : taken < length bytes → length (r .out) < r .filled + length (reply (lineOf r))
 
-none-scanned : (bytes : List ℕ) (s : Scan) → Ready s → (0 < length bytes → length (s .out) < s .filled + length (reply (lineOf s))) → Scanned bytes s s
+none-scanned : (bytes : List ℕ) (s : Scan) → Ready s → (0 < length bytes → length (s .out) < s .filled + length (reply (lineOf s)))
+    → Scanned bytes s s
 none-scanned bytes s h k = record {
   taken = 0;
   within = omega arith;
@@ -149,7 +155,8 @@ one-scanned : (b : ℕ) (rest : List ℕ) (s : Scan) → Ready s → Scanned res
     → Scanned (b ∷ rest) s (cond (eqb b newline) (cond (isFull s) s (scan rest (lineIn s))) (scan rest (byteIn b s)))
 one-scanned b rest s h byte line = pick (eqb b newline) (isFull s) refl refl
   where
-    pick : (n f : Bool) → eqb b newline ≡ n → isFull s ≡ f → Scanned (b ∷ rest) s (cond n (cond f s (scan rest (lineIn s))) (scan rest (byteIn b s)))
+    pick : (n f : Bool) → eqb b newline ≡ n → isFull s ≡ f
+        → Scanned (b ∷ rest) s (cond n (cond f s (scan rest (lineIn s))) (scan rest (byteIn b s)))
     pick true true p q = none-scanned (b ∷ rest) s h (λ _. ltb-true _ _ q)
     pick true false p q = let k = ltb-false _ _ q in line-scanned b rest s (scan rest (lineIn s)) h p k (line k)
     pick false f p q = byte-scanned b rest s (scan rest (byteIn b s)) h p byte
@@ -157,7 +164,8 @@ one-scanned b rest s h byte line = pick (eqb b newline) (isFull s) refl refl
 pub scanned : (bytes : List ℕ) (s : Scan) → Ready s → Scanned bytes s (scan bytes s)
 unfolding scan
 scanned [] s h = none-scanned [] s h (λ k. absurd (omega (arith, k)))
-scanned (b ∷ rest) s h = one-scanned b rest s h (scanned rest (byteIn b s) (byte-ready b s h)) (λ k. scanned rest (lineIn s) (line-ready s h k))
+scanned (b ∷ rest) s h =
+    one-scanned b rest s h (scanned rest (byteIn b s) (byte-ready b s h)) (λ k. scanned rest (lineIn s) (line-ready s h k))
 
 -- what is said of the input: the answers of the lines that end in its front, then what is said of the rest behind the line so far
 pub said-on : (line front rest : List ℕ) → said line (front ++ rest) ≡ ended line front ++ said (soFar line front) rest
@@ -168,7 +176,8 @@ said-on line (b ∷ front) rest = go (eqb b newline) (said-on [] front rest) (sa
     go : (n : Bool) → said [] (front ++ rest) ≡ ended [] front ++ said (soFar [] front) rest
         → said (line ++ (b ∷ [])) (front ++ rest) ≡ ended (line ++ (b ∷ [])) front ++ said (soFar (line ++ (b ∷ [])) front) rest
         → cond n (reply line ++ said [] (front ++ rest)) (said (line ++ (b ∷ [])) (front ++ rest))
-        ≡ cond n (reply line ++ ended [] front) (ended (line ++ (b ∷ [])) front) ++ said (cond n (soFar [] front) (soFar (line ++ (b ∷ [])) front)) rest
+        ≡ cond n (reply line ++ ended [] front) (ended (line ++ (b ∷ [])) front)
+        ++ said (cond n (soFar [] front) (soFar (line ++ (b ∷ [])) front)) rest
     go true p q = ap (λ (l : List ℕ). reply line ++ l) p ∙ sym (append-assoc (reply line) (ended [] front) (said (soFar [] front) rest))
     go false p q = q
 
@@ -202,7 +211,8 @@ pub record Feeds (chunk : List ℕ) (at len : ℕ) (line before : List ℕ) (r :
   -- memory for the longest answer is enough to go on
   pub onward : longest < length before → at < length chunk → at < r .next
 
-pub feeds : (chunk : List ℕ) (at len : ℕ) (line before : List ℕ) → length line ≡ suc maxLine → Feeds chunk at len line before (feedOf chunk at len line before)
+pub feeds : (chunk : List ℕ) (at len : ℕ) (line before : List ℕ) → length line ≡ suc maxLine
+    → Feeds chunk at len line before (feedOf chunk at len line before)
 feeds chunk at len line before h = from (feedOf chunk at len line before) (scanned (drop at chunk) start ready)
   where
     start : Scan
@@ -213,11 +223,13 @@ feeds chunk at len line before h = from (feedOf chunk at len line before) (scann
 
     from : (r : Scan) → Scanned (drop at chunk) start r → Feeds chunk at len line before r
     from r f =
-        let left : drop (f .taken) (drop at chunk) ≡ drop (r .next) chunk = drop-drop (f .taken) at chunk ∙ ap (λ (n : ℕ). drop n chunk) (sym (f .next)) in
+        let left : drop (f .taken) (drop at chunk) ≡ drop (r .next) chunk =
+        drop-drop (f .taken) at chunk ∙ ap (λ (n : ℕ). drop n chunk) (sym (f .next)) in
         let answers : ended (take len line) (drop at chunk) ≡ printedBy r ++ ended (lineOf r) (drop (r .next) chunk) =
         ap (λ (l : List ℕ). ended l (drop at chunk)) (sym (take-kept len line h))
         ∙ (f .answers ∙ ap (λ (l : List ℕ). printedBy r ++ ended (lineOf r) l) left) in
-        let so-far : take (suc maxLine) (soFar (take len line) (drop at chunk)) ≡ take (suc maxLine) (soFar (lineOf r) (drop (r .next) chunk)) =
+        let so-far : take (suc maxLine) (soFar (take len line) (drop at chunk))
+        ≡ take (suc maxLine) (soFar (lineOf r) (drop (r .next) chunk)) =
         ap (λ (l : List ℕ). take (suc maxLine) (soFar l (drop at chunk))) (sym (take-kept len line h))
         ∙ (f .line ∙ ap (λ (l : List ℕ). take (suc maxLine) (soFar (lineOf r) l)) left) in
         record {
@@ -236,7 +248,9 @@ feeds chunk at len line before h = from (feedOf chunk at len line before) (scann
           onward = λ k l. go (f .taken) (f .next) (f .first) (f .full) (f .long) k l;
         }
       where
-        go : (n : ℕ) → r .next ≡ at + n → (n ≡ 0 → r .filled ≡ 0) → (n < length (drop at chunk) → length (r .out) < r .filled + length (reply (lineOf r)))
+        go : (n : ℕ) → r .next ≡ at + n → (n ≡ 0 → r .filled ≡ 0)
+            → (n < length (drop at chunk) → length (r .out) < r .filled + length (reply (lineOf r)))
             → length (r .out) ≡ length before → longest < length before → at < length chunk → at < r .next
-        go zero e first full l k m = absurd (omega (arith, first refl, full (omega (arith, m, length-drop at chunk)), reply-short (lineOf r), l, k))
+        go zero e first full l k m =
+            absurd (omega (arith, first refl, full (omega (arith, m, length-drop at chunk)), reply-short (lineOf r), l, k))
         go (suc n) e first full l k m = omega (arith, e)

@@ -36,7 +36,8 @@ pub record Ends (chunk : List ℕ) (at : ℕ) : Type 0 where
   pub within : at ≤ length chunk
   pub stops : at < length chunk → getD chunk at 0 ≡ newline
 
-pub none-taken : (chunk : List ℕ) (from : ℕ) (line : List ℕ) (len : ℕ) → len ≤ length line → Takes chunk from line len line (record { at = from; len = len })
+pub none-taken : (chunk : List ℕ) (from : ℕ) (line : List ℕ) (len : ℕ) → len ≤ length line
+    → Takes chunk from line len line (record { at = from; len = len })
 none-taken chunk from line len h = record { same = λ filled out. refl; onward = omega arith; within = h }
 
 byte-goes-in : (chunk line : List ℕ) (i n filled : ℕ) (out : List ℕ) → i < length chunk → (getD chunk i 0 ≡ newline → ⊥)
@@ -64,7 +65,8 @@ module _ (chunk : List ℕ) (i : ℕ) (h : i < length chunk) (e : getD chunk i 0
   unfolding scan
   line-goes-in k = rw (add-one i, drop-cons chunk i 0 h, e, le-ltb (length out) (filled + length (reply (take n line))) k)
 
-  line-stays-out : length out < filled + length (reply (take n line)) → scan (drop i chunk) (scanAt i n filled line out) ≡ scanAt i n filled line out
+  line-stays-out : length out < filled + length (reply (take n line))
+      → scan (drop i chunk) (scanAt i n filled line out) ≡ scanAt i n filled line out
   unfolding scan
   line-stays-out k = rw (drop-cons chunk i 0 h, e, lt-ltb (length out) (filled + length (reply (take n line))) k)
 
@@ -78,7 +80,8 @@ pub record Goes (chunk : List ℕ) (start : Scan) (i held filled : ℕ) (line ou
   pub kept : held ≤ length line
   pub room : filled ≤ length out
 
-pub not-gone : (chunk : List ℕ) (at len : ℕ) (line out : List ℕ) → len ≤ length line → Goes chunk (scanAt at len 0 line out) at len 0 line out
+pub not-gone : (chunk : List ℕ) (at len : ℕ) (line out : List ℕ) → len ≤ length line
+    → Goes chunk (scanAt at len 0 line out) at len 0 line out
 not-gone chunk at len line out h = record { same = refl; kept = h; room = omega arith }
 
 module _ (chunk : List ℕ) (start : Scan) (i held filled : ℕ) (between out : List ℕ) (f : Goes chunk start i held filled between out) where
@@ -118,7 +121,8 @@ module _ (chunk : List ℕ) (start : Scan) (i held filled : ℕ) (between out : 
   goes-behind-the-line n part h l e r =
       let text = reply (take held between) in
       let w = written-counted text (partFrom filled out) part refl r in
-      let fits : filled + length text ≤ length out = omega (arith, w .0, written-within text (partFrom filled out) part refl r, h, f .room) in
+      let fits : filled + length text ≤ length out =
+      omega (arith, w .0, written-within text (partFrom filled out) part refl r, h, f .room) in
       let stored : withPart filled out part ≡ sets out filled text = part-stored text out part fits (w .1) refl .memory in
       record {
         same = f .same ∙ rw (w .0, stored) (line-goes-in chunk i l e held filled between out fits);
@@ -132,7 +136,8 @@ module _ (line before : List ℕ) where
   unfolding said
   nothing-left = written-done [] before before refl (omega arith) refl refl
 
-  pub last-line : (len m : ℕ) (r : Count) (after : List ℕ) → m ≡ min len (length line) → 0 < m → left r after ≡ written 0 (reply (take m line)) before
+  pub last-line : (len m : ℕ) (r : Count) (after : List ℕ) → m ≡ min len (length line) → 0 < m
+      → left r after ≡ written 0 (reply (take m line)) before
       → left r after ≡ written 0 (said (take len line) []) before
   unfolding said
   last-line len m r after e h p =
@@ -164,9 +169,11 @@ module _ (line memory : List ℕ) where
         ∙ ap (λ (x : List ℕ). P ++ x) (sym (drop-append-le (length P) (take k memory) (drop k memory) (omega (arith, few, t)))
         ∙ (ap (λ (x : List ℕ). drop (length P) x) (take-append-drop k memory) ∙ ap (λ (m : ℕ). drop m memory) (sym (w .0))))) in
         let after : set (part ++ drop k memory) n newline ≡ P ++ newline ∷ drop (suc n) memory =
-        rw (joined, drop-cons memory n 0 (omega (arith, w .0, few))) (set-at P (getD memory n 0) (drop (suc n) memory) newline n (sym (w .0))) in
+        rw (joined, drop-cons memory n 0 (omega (arith, w .0, few)))
+        (set-at P (getD memory n 0) (drop (suc n) memory) newline n (sym (w .0))) in
         let long : length (P ++ (newline ∷ [])) ≡ suc n = omega (arith, w .0, length-append P (newline ∷ [])) in
-        written-done (P ++ (newline ∷ [])) memory (set (part ++ drop k memory) n newline) refl (omega (arith, long, few, w .0)) (omega (arith, long))
+        written-done (P ++ (newline ∷ [])) memory (set (part ++ drop k memory) n newline) refl (omega (arith, long, few, w .0))
+        (omega (arith, long))
         (after ∙ rw long (sym (append-assoc P (newline ∷ []) (drop (suc n) memory))))
 
     pub no-answer : (why : Refusal) → left (Refused why) part ≡ lineWritten line (take k memory)

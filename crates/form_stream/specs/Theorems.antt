@@ -50,11 +50,12 @@ a-last-line line h k =
     ap (λ (l : List ℕ). said [] l) (sym (append-nil line))
     ∙ (line-goes-on [] line [] h ∙ (last-replied line k ∙ sym (a-line line [] h ∙ append-nil (reply line))))
 
--- Calls of `feed` and a last one of `finish`: the line so far, the input that is still to come, and all that the calls hand out to be printed. Where the
--- input is cut into chunks, and whether what a call leaves of its chunk comes again by itself or in another one, is free. So is the memory for the
--- answers at each call, and that of the line behind its first bytes.
+-- Calls of `feed` and a last one of `finish`: the line so far, the input that is still to come, and all that the calls hand out to be
+-- printed. Where the input is cut into chunks, and whether what a call leaves of its chunk comes again by itself or in another one, is
+-- free. So is the memory for the answers at each call, and that of the line behind its first bytes.
 pub data Prints : List ℕ → List ℕ → List ℕ → Type 0 where
-  finished : (len n : ℕ) (line before out : List ℕ) → left (Counted n) out ≡ written 0 (said (take len line) []) before → Prints (take len line) [] (take n out)
+  finished : (len n : ℕ) (line before out : List ℕ) → left (Counted n) out ≡ written 0 (said (take len line) []) before
+      → Prints (take len line) [] (take n out)
   fed : (chunk : List ℕ) (at len : ℕ) (line out rest printed : List ℕ) → length line ≡ suc maxLine
       → Prints (lineOf (feedOf chunk at len line out)) (drop (feedOf chunk at len line out .next) chunk ++ rest) printed
       → Prints (take len line) (drop at chunk ++ rest) (printedBy (feedOf chunk at len line out) ++ printed)
@@ -70,11 +71,13 @@ finish-prints len n line before out f =
 pub chunks-do-not-matter : {line input printed : List ℕ} → Prints line input printed → printed ≡ said line input
 chunks-do-not-matter (finished len n line before out f) = finish-prints len n line before out f
 chunks-do-not-matter (fed chunk at len line out rest printed h p) =
-    ap (λ (l : List ℕ). printedBy (feedOf chunk at len line out) ++ l) (chunks-do-not-matter p) ∙ sym (feeds chunk at len line out h .same rest)
+    ap (λ (l : List ℕ). printedBy (feedOf chunk at len line out) ++ l) (chunks-do-not-matter p)
+    ∙ sym (feeds chunk at len line out h .same rest)
 
 -- As a program makes them: over each chunk the calls go on, turn by turn, until it is used up.
 
--- the calls over one chunk, of which some bytes are taken in already: the line so far, what is printed, and the line so far behind the chunk
+-- the calls over one chunk, of which some bytes are taken in already: the line so far, what is printed, and the line so far behind the
+-- chunk
 pub data Turns (chunk : List ℕ) : ℕ → List ℕ → List ℕ → List ℕ → Type 0 where
   used-up : (at len : ℕ) (line : List ℕ) → length line ≡ suc maxLine → length chunk ≤ at → Turns chunk at (take len line) [] (take len line)
   turn : (at len : ℕ) (line out printed last : List ℕ) → length line ≡ suc maxLine
@@ -83,7 +86,8 @@ pub data Turns (chunk : List ℕ) : ℕ → List ℕ → List ℕ → List ℕ �
 
 -- the calls over all chunks, and the last one
 pub data Runs : List ℕ → List (List ℕ) → List ℕ → Type 0 where
-  no-more : (len n : ℕ) (line before out : List ℕ) → left (Counted n) out ≡ written 0 (said (take len line) []) before → Runs (take len line) [] (take n out)
+  no-more : (len n : ℕ) (line before out : List ℕ) → left (Counted n) out ≡ written 0 (said (take len line) []) before
+      → Runs (take len line) [] (take n out)
   one-chunk : {chunk line last printed more : List ℕ} {chunks : List (List ℕ)} → Turns chunk 0 line printed last → Runs last chunks more
       → Runs line (chunk ∷ chunks) (printed ++ more)
 
@@ -91,8 +95,8 @@ abbrev pub joined : List (List ℕ) → List ℕ
 joined [] = []
 joined (chunk ∷ chunks) = chunk ++ joined chunks
 
--- "one form a line": over a chunk, just the answers of the lines that end in it are printed; and the line so far is kept, up to one byte more than
--- a line may have
+-- "one form a line": over a chunk, just the answers of the lines that end in it are printed; and the line so far is kept, up to one
+-- byte more than a line may have
 pub the-lines-that-end-are-answered : {chunk : List ℕ} {at : ℕ} {line printed last : List ℕ} → Turns chunk at line printed last
     → (printed ≡ ended line (drop at chunk)) × (last ≡ take (suc maxLine) (soFar line (drop at chunk)))
 unfolding ended soFar
@@ -105,7 +109,8 @@ the-lines-that-end-are-answered {chunk} (turn at len line out printed last h t) 
     (ap (λ (l : List ℕ). printedBy (feedOf chunk at len line out) ++ l) (k .0) ∙ sym (f .answers), k .1 ∙ sym (f .so-far))
 
 -- all that is printed is what is said of the input, wherever it is cut and however many turns a chunk takes
-pub a-run-prints-what-is-said : {line printed : List ℕ} {chunks : List (List ℕ)} → Runs line chunks printed → printed ≡ said line (joined chunks)
+pub a-run-prints-what-is-said : {line printed : List ℕ} {chunks : List (List ℕ)} → Runs line chunks printed
+    → printed ≡ said line (joined chunks)
 a-run-prints-what-is-said (no-more len n line before out f) = finish-prints len n line before out f
 a-run-prints-what-is-said (one-chunk {chunk} {line} {last} {printed} {more} {chunks} t p) =
     let k = the-lines-that-end-are-answered t in
@@ -121,11 +126,13 @@ record Used (chunk : List ℕ) (at : ℕ) (line : List ℕ) : Type 0 where
   long : length memory ≡ suc maxLine
   turns : Turns chunk at line printed (take len memory)
 
-no-more-turns : (chunk : List ℕ) (at len : ℕ) (line : List ℕ) → length line ≡ suc maxLine → length chunk ≤ at → Used chunk at (take len line)
+no-more-turns : (chunk : List ℕ) (at len : ℕ) (line : List ℕ) → length line ≡ suc maxLine → length chunk ≤ at
+    → Used chunk at (take len line)
 no-more-turns chunk at len line h k = record { printed = []; len = len; memory = line; long = h; turns = used-up at len line h k }
 
 one-more-turn : (chunk : List ℕ) (at len : ℕ) (line out : List ℕ) → length line ≡ suc maxLine
-    → (at < length chunk → Used chunk (feedOf chunk at len line out .next) (lineOf (feedOf chunk at len line out))) → Used chunk at (take len line)
+    → (at < length chunk → Used chunk (feedOf chunk at len line out .next) (lineOf (feedOf chunk at len line out)))
+    → Used chunk at (take len line)
 one-more-turn chunk at len line out h more = pick (decLe (length chunk) at)
   where
     pick : Dec (length chunk ≤ at) → Used chunk at (take len line)
@@ -147,7 +154,8 @@ some-turns (suc n) chunk at len line out h k l =
     let r = feedOf chunk at len line out in
     let f = feeds chunk at len line out h in
     one-more-turn chunk at len line out h
-    (λ m. some-turns n chunk (r .next) (r .len) (r .line) (r .out) (f .ready .long) (omega (arith, k, f .long)) (omega (arith, l, f .onward k m)))
+    (λ m. some-turns n chunk (r .next) (r .len) (r .line) (r .out) (f .ready .long) (omega (arith, k, f .long))
+    (omega (arith, l, f .onward k m)))
 
 pub a-chunk-is-used-up : (chunk : List ℕ) (len : ℕ) (line out : List ℕ) → length line ≡ suc maxLine → longest < length out
     → Turns chunk 0 (take len line) (ended (take len line) chunk) (take (suc maxLine) (soFar (take len line) chunk))
@@ -166,7 +174,8 @@ unfolding said
 last-short [] = omega arith
 last-short (b ∷ line) = reply-short (b ∷ line)
 
-some-run : (chunks : List (List ℕ)) (len : ℕ) (line out : List ℕ) → length line ≡ suc maxLine → longest < length out → SomeRun (take len line) chunks
+some-run : (chunks : List (List ℕ)) (len : ℕ) (line out : List ℕ) → length line ≡ suc maxLine → longest < length out
+    → SomeRun (take len line) chunks
 some-run [] len line out h k =
     let last = said (take len line) [] in
     record {

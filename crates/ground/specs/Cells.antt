@@ -67,7 +67,8 @@ module _ (G : ℕ → ℕ → Bool) where
   all-full : (d : ℕ) (t : Tile) → ((X Y : ℕ) → X / 2 ^ d ≡ t .x → Y / 2 ^ d ≡ t .y → G X Y ≡ true) → full G d t ≡ true
   unfolding full
   all-full zero t f = f (t .x) (t .y) (div-one (t .x)) (div-one (t .y))
-  all-full (suc d) t f = whole-all (full G d) t .1 (λ i j a b. all-full d (child t i j) (λ X Y p q. f X Y (up X i (t .x) a p) (up Y j (t .y) b q)))
+  all-full (suc d) t f =
+      whole-all (full G d) t .1 (λ i j a b. all-full d (child t i j) (λ X Y p q. f X Y (up X i (t .x) a p) (up Y j (t .y) b q)))
     where
       up : (n i x : ℕ) → i < 2 → n / 2 ^ d ≡ 2 * x + i → n / 2 ^ suc d ≡ x
       up n i x l e = rw (halve n d) (omega arith)

@@ -1,4 +1,5 @@
--- The number that stands for a tile in a list, by this one name: today the one of `to_id`. Callers use the laws below, and not which number it is.
+-- The number that stands for a tile in a list, by this one name: today the one of `to_id`. Callers use the laws below, and not which
+-- number it is.
 use mathlib.Core.Path.{_≡_}
 use mathlib.Core.Bool.{Bool}
 use mathlib.Core.List.{List, map}

@@ -88,7 +88,8 @@ power-start (suc z) =
     three = omega arith
 
 pub start-next : (z : ℕ) → levelStart (suc z) ≡ levelStart z + 4 ^ z
-start-next z = let e = power-start z in let f : 4 ^ z * 4 ≡ 3 * levelStart (suc z) + 1 = sym (pow-suc 4 z) ∙ power-start (suc z) in omega arith
+start-next z = let e = power-start z in let f : 4 ^ z * 4 ≡ 3 * levelStart (suc z) + 1 = sym (pow-suc 4 z) ∙ power-start (suc z) in
+    omega arith
 
 pub start-mono : (a b : ℕ) → a ≤ b → levelStart a ≤ levelStart b
 start-mono a zero h = let e : a ≡ 0 = omega arith in rw e (omega arith)

@@ -18,7 +18,8 @@ use Rattle.tile.specs.Rust.{To29, to-29-on-map, accepted}
 use Rattle.tile.specs.declared.Tile.{Tile}
 use Rattle.ids.specs.Id.{idOf, idTile, idRefusal, toIdOf, fromIdOf}
 use Rattle.ids.specs.Laws.{place-below, double-side, id-parts, id-again, tile-again, id-accepted, accepted-id}
-use Rattle.ids.specs.Laws.{InZoom, four-power, power-start, start-next, start-mono, start-small, rmid-small, rmid-below, rmid-fits, rmid-holds}
+use Rattle.ids.specs.Laws.{InZoom, four-power, power-start, start-next, start-mono, start-small, rmid-small, rmid-below, rmid-fits}
+use Rattle.ids.specs.Laws.{rmid-holds}
 use Rattle.ids.specs.Laws.{zoom-holds, one-zoom, place-in-zoom, place-column, place-row}
 use Rattle.ids.specs.Rmid.{levelStart, rmid, rmidLimit, rmidRefusal, zoomUpTo, zoomOf, offsetOf}
 use Rattle.ids.specs.Rmid.{toRmidOf, offsetZoomOf, fromRmidOf}

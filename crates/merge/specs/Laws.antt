@@ -58,7 +58,8 @@ changed-says Merge m list true c =
 changed-says SimplifyV1 m list b c = c
 changed-says Simplify m list b c = c
 
-pub keys-left : (by : Key) (fine : Bool) (list left : List ℕ) → Keyed by list left fine → (work : Work) → not fine ≡ false → by ≡ sortedBy work
+pub keys-left : (by : Key) (fine : Bool) (list left : List ℕ) → Keyed by list left fine → (work : Work) → not fine ≡ false
+    → by ≡ sortedBy work
     → left ≡ map (entryKey (sortedBy work)) list
 keys-left by fine list left k work e f = k .keys (not-false fine e) ∙ ap (λ (k : Key). map (entryKey k) list) f
 
@@ -73,13 +74,15 @@ pub no-tile : (work : Work) (list : List ℕ) (m : ℕ) (memory : List ℕ) → 
 unfolding placesRefusal listRefusal
 no-tile work list m memory h e = rw (le-ltb _ _ h, ← e)
 
-pub no-room : (work : Work) (list : List ℕ) (m : ℕ) (memory : List ℕ) → length list ≤ maxEntries → true ≡ allOf isEntry list → length memory < length list
+pub no-room : (work : Work) (list : List ℕ) (m : ℕ) (memory : List ℕ) → length list ≤ maxEntries → true ≡ allOf isEntry list
+    → length memory < length list
     → mergedLeft (Refused Memory) memory ≡ workOf work list m memory
 unfolding placesRefusal listRefusal
 no-room work list m memory h e l = rw (le-ltb _ _ h, ← e, lt-ltb _ _ l)
 
 -- the answer stands in the part of the memory that was asked for
-pub done : (work : Work) (list keys : List ℕ) (m : ℕ) (memory after : List ℕ) (r : Merged) → length list ≤ maxEntries → true ≡ allOf isEntry list
+pub done : (work : Work) (list keys : List ℕ) (m : ℕ) (memory after : List ℕ) (r : Merged) → length list ≤ maxEntries
+    → true ≡ allOf isEntry list
     → length list ≤ length memory → keys ≡ map (entryKey (sortedBy work)) list → Worked work m keys after r
     → mergedLeft (Found r) (after ++ drop (length list) memory) ≡ workOf work list m memory
 unfolding placesRefusal listRefusal
@@ -101,16 +104,19 @@ done work list keys m memory after r h e l k w = rw (le-ltb _ _ h, ← e, le-ltb
     left = listed-filled (length list) memory its (w .size ∙ (ap length k ∙ length-map list (entryKey (sortedBy work))))
 
 -- each work's own promise is what is asked of it
-pub merged-worked : (work : Work) (m : ℕ) (keys after : List ℕ) (r : Joined) → work ≡ Merge → length after ≡ length keys → Merges m keys after r
+pub merged-worked : (work : Work) (m : ℕ) (keys after : List ℕ) (r : Joined) → work ≡ Merge → length after ≡ length keys
+    → Merges m keys after r
     → Worked work m keys after (record { count = r .count; changed = r .changed })
 merged-worked work m keys after r e s p = rw e (record { size = s; listed = p .listed; changes = (p .still, p .moved) })
 
 pub simplified-worked : (work : Work) (m : ℕ) (keys after : List ℕ) (count : ℕ) → work ≡ Simplify → length after ≡ length keys
-    → Listed (simplified maxZoom m (named locationTile keys)) after count → Worked work m keys after (record { count = count; changed = false })
+    → Listed (simplified maxZoom m (named locationTile keys)) after count
+    → Worked work m keys after (record { count = count; changed = false })
 simplified-worked work m keys after count e s p = rw e (record { size = s; listed = p; changes = refl })
 
 pub simplified-v1-worked : (work : Work) (m : ℕ) (keys after : List ℕ) (count : ℕ) → work ≡ SimplifyV1 → length after ≡ length keys
-    → Listed (simplifiedV1 maxZoom m (named locationTile keys)) after count → Worked work m keys after (record { count = count; changed = false })
+    → Listed (simplifiedV1 maxZoom m (named locationTile keys)) after count
+    → Worked work m keys after (record { count = count; changed = false })
 simplified-v1-worked work m keys after count e s p = rw e (record { size = s; listed = p; changes = refl })
 
 -- a call's answer without what it says of change

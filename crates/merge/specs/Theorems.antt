@@ -139,15 +139,21 @@ module _ (list : List ℕ) (accepted : allOf isEntry list ≡ true) (m : ℕ) wh
   simplified-v1-within = passes-within maxZoom m (uncovered m its) (uncovered-within m its its-within)
 
   -- "`merge` until nothing changes": both are fixed points of `merge`
-  pub simplify-is-a-fixed-point : (entriesInOrder (merged m (listed simplifiedList)) ≡ simplifiedList) × (mergeChanges m simplifiedList ≡ false)
+  pub simplify-is-a-fixed-point : (entriesInOrder (merged m (listed simplifiedList)) ≡ simplifiedList)
+      × (mergeChanges m simplifiedList ≡ false)
   simplify-is-a-fixed-point =
-      let still = simplify-still m its its-within in
-      (merged-again m (simplified maxZoom m its) its-simplified-within still, unchanged m (simplified maxZoom m its) its-simplified-within still)
+      let still = simplify-still m its its-within in (
+        merged-again m (simplified maxZoom m its) its-simplified-within still,
+        unchanged m (simplified maxZoom m its) its-simplified-within still,
+      )
 
-  pub simplify-v1-is-a-fixed-point : (entriesInOrder (merged m (listed simplifiedV1List)) ≡ simplifiedV1List) × (mergeChanges m simplifiedV1List ≡ false)
+  pub simplify-v1-is-a-fixed-point : (entriesInOrder (merged m (listed simplifiedV1List)) ≡ simplifiedV1List)
+      × (mergeChanges m simplifiedV1List ≡ false)
   simplify-v1-is-a-fixed-point =
-      let still = simplify-v1-still m its its-within in
-      (merged-again m (simplifiedV1 maxZoom m its) simplified-v1-within still, unchanged m (simplifiedV1 maxZoom m its) simplified-v1-within still)
+      let still = simplify-v1-still m its its-within in (
+        merged-again m (simplifiedV1 maxZoom m its) simplified-v1-within still,
+        unchanged m (simplifiedV1 maxZoom m its) simplified-v1-within still,
+      )
 
   -- "Ground": the zoom-29 tiles inside are the same
   pub simplify-keeps-the-ground : (X Y : ℕ) → Covered maxZoom its X Y ↔ Covered maxZoom (listed simplifiedList) X Y
@@ -167,7 +173,8 @@ simplify-at-0-is-settled list accepted =
     (in-order-ordered maxZoom (simplified maxZoom 0 (listed list)), s .0, s .1)
 
 -- "however the lent buffers were filled before": what an accepted call leaves in the places that it asked for is the same for every memory
-pub the-memory-before-does-not-matter : (places : ℕ) (items a b : List ℕ) → take places (filled places items a) ≡ take places (filled places items b)
+pub the-memory-before-does-not-matter : (places : ℕ) (items a b : List ℕ)
+    → take places (filled places items a) ≡ take places (filled places items b)
 the-memory-before-does-not-matter places items a b = front a ∙ sym (front b)
   where
     zeros : List ℕ
@@ -177,4 +184,5 @@ the-memory-before-does-not-matter places items a b = front a ∙ sym (front b)
     long = rw (length-append items zeros, length-replicate {A = ℕ} (places - length items) 0) (omega arith)
 
     front : (memory : List ℕ) → take places (filled places items memory) ≡ take places (items ++ zeros)
-    front memory = ap (take places) (sym (append-assoc items zeros (drop places memory))) ∙ take-append-le places (items ++ zeros) (drop places memory) long
+    front memory = ap (take places) (sym (append-assoc items zeros (drop places memory)))
+        ∙ take-append-le places (items ++ zeros) (drop places memory) long

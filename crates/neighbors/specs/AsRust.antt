@@ -23,7 +23,8 @@ use Rattle.tile.specs.declared.Step.the-variants.{Back}
 use Rattle.tile.specs.declared.Tile.{Tile}
 use Rattle.neighbors.specs.Neighbors.{around, aroundWrapped, inside, near, nearWrapped}
 use Rattle.neighbors.specs.declared.Seam.the-variants.{Cut}
-use Rattle.neighbors.specs.Rust.{neighborsArm, remEuclid, asU32, plusI64, wrapStep, wrapSteps, wrapTiles, armBy, tilesAt, kept, struck}
+use Rattle.neighbors.specs.Rust.{neighborsArm, remEuclid, asU32, plusI64, wrapStep, wrapSteps, wrapTiles, armBy, tilesAt, kept}
+use Rattle.neighbors.specs.Rust.{struck}
 use Rattle.neighbors.specs.Laws.{below-one, near-off-row}
 
 -- where all tiles are on the map, none is struck out
@@ -59,7 +60,8 @@ module _ (x y z : ℕ) where
 
   -- the block in its order, by what stands at the five squares that column 0 or row 0 may lack
   block : {w n nw ne sw : List Tile} → near x y z 1 ≡ w → near x y z 3 ≡ n → near x y z 0 ≡ nw → near x y z 6 ≡ ne → near x y z 2 ≡ sw
-      → kept (tileAt (x + 1) y z) ++ (kept (tileAt x (y + 1) z) ++ (kept (tileAt (x + 1) (y + 1) z) ++ (w ++ (n ++ (nw ++ (ne ++ (sw ++ [])))))))
+      → kept (tileAt (x + 1) y z)
+      ++ (kept (tileAt x (y + 1) z) ++ (kept (tileAt (x + 1) (y + 1) z) ++ (w ++ (n ++ (nw ++ (ne ++ (sw ++ [])))))))
       ≡ gather (near x y z) around
   unfolding gather
   block p q r s t =
@@ -75,12 +77,14 @@ module _ (x y z : ℕ) where
       )
 
   -- the four arms that a tile of the map may take
-  pub arm-struck : (a : Bool) → eqb x 0 ≡ a → (b : Bool) → eqb y 0 ≡ b → struck (tilesAt (neighborsArm (armBy a b)) x y z) ≡ gather (near x y z) around
+  pub arm-struck : (a : Bool) → eqb x 0 ≡ a → (b : Bool) → eqb y 0 ≡ b
+      → struck (tilesAt (neighborsArm (armBy a b)) x y z) ≡ gather (near x y z) around
   unfolding flatMap
   arm-struck true p true q =
       let e = eqb-true x 0 p in
       let f = eqb-true y 0 q in
-      block (no-column 1 (omega arith)) (no-row 3 (omega arith)) (no-column 0 (omega arith)) (no-row 6 (omega arith)) (no-column 2 (omega arith))
+      block (no-column 1 (omega arith)) (no-row 3 (omega arith)) (no-column 0 (omega arith)) (no-row 6 (omega arith))
+      (no-column 2 (omega arith))
   arm-struck true p false q =
       let e = eqb-true x 0 p in
       let f = eqb-false y 0 q in
@@ -169,7 +173,8 @@ row-kept side n t b = pick (decLt n side)
     pick (no h) = let l : side ≤ n = omega arith in rw (le-ltb n 0 z, le-leb side n l, le-ltb n side l)
 
 wrapped-row : {d : ℤ} {s : ℕ} → Means d s → (y side : ℕ) (t : ℕ → Tile) → side ≤ 2 ^ 29
-    → cond (ltZ (pos y +ℤ d) (pos 0) || leZ (pos side) (pos y +ℤ d)) [] (t (asU32 (pos y +ℤ d)) ∷ []) ≡ cond (inside side y s) (t (y + s - 1) ∷ []) []
+    → cond (ltZ (pos y +ℤ d) (pos 0) || leZ (pos side) (pos y +ℤ d)) [] (t (asU32 (pos y +ℤ d)) ∷ [])
+    ≡ cond (inside side y s) (t (y + s - 1) ∷ []) []
 wrapped-row {d} {s} p y side t b = pick (decLt 0 (y + s))
   where
     pick : Dec (0 < y + s)

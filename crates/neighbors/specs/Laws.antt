@@ -40,7 +40,8 @@ one-of-nine Cut k h = ltb-true _ 9 (all-at (λ s. ltb s 9) (orderOf Cut) k refl 
 abbrev pub found : Seam → ℕ → ℕ → ℕ → ℕ → List Tile
 found seam x y z k = gather (nearOf seam x y z) (take k (orderOf seam))
 
-pub found-more : (seam : Seam) (x y z k : ℕ) → k < 8 → found seam x y z (k + 1) ≡ found seam x y z k ++ nearOf seam x y z (getD (orderOf seam) k 0)
+pub found-more : (seam : Seam) (x y z k : ℕ) → k < 8
+    → found seam x y z (k + 1) ≡ found seam x y z k ++ nearOf seam x y z (getD (orderOf seam) k 0)
 unfolding gather
 found-more seam x y z k h =
     rw (
@@ -88,10 +89,12 @@ fill-more seam x y z k n spot memory out h e f g =
 
 pub fill-length : (seam : Seam) (x y z k n : ℕ) (memory out : List ℕ) → n ≡ length (found seam x y z k) → n ≤ length memory
     → out ≡ entriesOf (found seam x y z k) ++ drop n memory → length out ≡ length memory
-fill-length seam x y z k n memory out e h f = ap (λ (l : List ℕ). length l) f ∙ rw (length-append, length-map, ← e, length-drop) (omega arith)
+fill-length seam x y z k n memory out e h f =
+    ap (λ (l : List ℕ). length l) f ∙ rw (length-append, length-map, ← e, length-drop) (omega arith)
 
 inside-bounds : (side n s : ℕ) → inside side n s ≡ true → n + s - 1 < side
-inside-bounds side n s e = let p = and-parts (leb 1 (n + s)) (leb (n + s) side) e in omega (arith, leb-true 1 (n + s) (p .0), leb-true (n + s) side (p .1))
+inside-bounds side n s e = let p = and-parts (leb 1 (n + s)) (leb (n + s) side) e in
+    omega (arith, leb-true 1 (n + s) (p .0), leb-true (n + s) side (p .1))
 
 -- a list that holds one tile on a test, and that tile, passes the test
 kept-is : (b : Bool) (s t : Tile) → s ∷ [] ≡ cond b (t ∷ []) [] → (b ≡ true) × (s ≡ t)
@@ -104,7 +107,12 @@ near-on-map Wrapped x y z s c r m e =
     let k = kept-is (inside (2 ^ z) y (s % 3)) (tileAt c r z) (tileAt ((x + s / 3 + 2 ^ z - 1) % 2 ^ z) (y + s % 3 - 1) z) e in
     let a : c ≡ (x + s / 3 + 2 ^ z - 1) % 2 ^ z = ap (λ (t : Tile). t .x) (k .1) in
     let b : r ≡ y + s % 3 - 1 = ap (λ (t : Tile). t .y) (k .1) in
-    record { zoom = m .zoom; column = rw a (mod-lt (x + s / 3 + 2 ^ z - 1) (pow-pos z)); row = rw b (inside-bounds (2 ^ z) y (s % 3) (k .0)) }
+    record {
+      zoom = m .zoom;
+      column = rw a (mod-lt (x + s / 3 + 2 ^ z - 1) (pow-pos z));
+      row =
+          rw b (inside-bounds (2 ^ z) y (s % 3) (k .0));
+    }
 near-on-map Cut x y z s c r m e =
     let k = kept-is (inside (2 ^ z) x (s / 3) && inside (2 ^ z) y (s % 3)) (tileAt c r z) (tileAt (x + s / 3 - 1) (y + s % 3 - 1) z) e in
     let p = and-parts (inside (2 ^ z) x (s / 3)) (inside (2 ^ z) y (s % 3)) (k .0) in
@@ -166,7 +174,8 @@ most-gathered seam x y z (s ∷ l) =
 pub found-most : (seam : Seam) (x y z : ℕ) → length (gather (nearOf seam x y z) (orderOf seam)) ≤ 8
 found-most seam x y z = omega (arith, most-gathered seam x y z (orderOf seam), eight seam)
 
-pub neighbors-deep : (seam : Seam) (x y z : ℕ) → (z ≡ 0 → ⊥) → (z ≡ 1 → ⊥) → neighborsOf seam x y z ≡ gather (nearOf seam x y z) (orderOf seam)
+pub neighbors-deep : (seam : Seam) (x y z : ℕ) → (z ≡ 0 → ⊥) → (z ≡ 1 → ⊥)
+    → neighborsOf seam x y z ≡ gather (nearOf seam x y z) (orderOf seam)
 neighbors-deep seam x y zero p q = absurd (p refl)
 neighbors-deep seam x y (suc zero) p q = absurd (q refl)
 neighbors-deep seam x y (suc (suc z)) p q = refl

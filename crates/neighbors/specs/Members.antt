@@ -92,15 +92,24 @@ near-on-square x y z s t m =
     let r2 = leb-true (y + s % 3) (2 ^ z) (r .1) in
     let a : t .x ≡ x + s / 3 - 1 = ap (λ (u : Tile). u .x) (k .1) in
     let b : t .y ≡ y + s % 3 - 1 = ap (λ (u : Tile). u .y) (k .1) in
-    record { column = omega arith; row = omega arith; zoom = ap (λ (u : Tile). u .z) (k .1); column-small = omega arith; row-small = omega arith }
+    record {
+      column = omega arith;
+      row = omega arith;
+      zoom = ap (λ (u : Tile). u .z) (k .1);
+      column-small = omega arith;
+      row-small =
+          omega arith;
+    }
 
 pub on-square-near : (x y z s : ℕ) (t : Tile) → OnSquare x y z s t → List·Memᴰ t (near x y z s)
 on-square-near x y z s t p =
     let e : t ≡ tileAt (t .x) (t .y) z = tile-ext t (tileAt (t .x) (t .y) z) refl refl (p .zoom) in
-    rw (near-at x y z s (t .x) (t .y) (sym (p .column)) (sym (p .row)), lt-ltb _ _ (p .column-small), lt-ltb _ _ (p .row-small)) (List·Memᴰ·head e)
+    rw (near-at x y z s (t .x) (t .y) (sym (p .column)) (sym (p .row)), lt-ltb _ _ (p .column-small), lt-ltb _ _ (p .row-small))
+    (List·Memᴰ·head e)
 
 -- a tile at a square, on either kind of map, is the one tile of that square
-near-one : (seam : Seam) (x y z s : ℕ) (t : Tile) → List·Memᴰ t (nearOf seam x y z s) → (tileAt (t .x) (t .y) z ∷ [] ≡ nearOf seam x y z s) × (t .z ≡ z)
+near-one : (seam : Seam) (x y z s : ℕ) (t : Tile) → List·Memᴰ t (nearOf seam x y z s)
+    → (tileAt (t .x) (t .y) z ∷ [] ≡ nearOf seam x y z s) × (t .z ≡ z)
 near-one Wrapped x y z s t m =
     let k = mem-test (inside (2 ^ z) y (s % 3)) m in
     (rw (k .0) (ap (λ (u : Tile). tileAt (u .x) (u .y) z ∷ []) (k .1)), ap (λ (u : Tile). u .z) (k .1))
@@ -121,7 +130,8 @@ wrapped-back x c side h k =
     let e : x + c + side - 1 + (1 + (side - x)) ≡ c + side + side = omega arith in
     rw (mod-add-mod (x + c + side - 1) side (1 + (side - x)), e, add-mod-right (c + side) side, add-mod-right c side, mod-eq-of-lt k)
 
-pub square-back : (seam : Seam) (x y z s : ℕ) (t : Tile) → x < 2 ^ z → 4 ≤ 2 ^ z → s < 9 → List·Memᴰ t (nearOf seam x y z s) → squareOf seam x y (2 ^ z) t ≡ s
+pub square-back : (seam : Seam) (x y z s : ℕ) (t : Tile) → x < 2 ^ z → 4 ≤ 2 ^ z → s < 9 → List·Memᴰ t (nearOf seam x y z s)
+    → squareOf seam x y (2 ^ z) t ≡ s
 square-back Wrapped x y z s t h f n m =
     let k = mem-test (inside (2 ^ z) y (s % 3)) m in
     let r = and-parts (leb 1 (y + s % 3)) (leb (y + s % 3) (2 ^ z)) (k .0) in

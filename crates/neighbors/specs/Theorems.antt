@@ -26,7 +26,8 @@ use Rattle.neighbors.specs.Laws.{neighbors-deep}
 use Rattle.neighbors.specs.AsRust.{none-struck, arm-struck, arm-within, arm-fits, wrapped-block}
 use Rattle.neighbors.specs.Members.{around-square, square-around, OnSquare, near-on-square, on-square-near, mem-on-map, square-back}
 use Rattle.neighbors.specs.Members.{square-self, around-once}
-use Rattle.neighbors.specs.Rust.{TopLeft, edgeBy, rustEdge, neighborsArm, rustNeighbors, rustNeighborsWrapX, armBy, armOf, tilesAt, struck}
+use Rattle.neighbors.specs.Rust.{TopLeft, edgeBy, rustEdge, neighborsArm, rustNeighbors, rustNeighborsWrapX, armBy, armOf, tilesAt}
+use Rattle.neighbors.specs.Rust.{struck}
 
 -- The Rust is held to tiles of zoom 0 to 29. On them no check fails.
 
@@ -37,12 +38,14 @@ rust-neighbors-zoom-0 x y = refl
 pub rust-neighbors-zoom-1 : (x y : ℕ) → To29 x y 1 → rustNeighbors x y 1 ≡ returns (neighborsOf Cut x y 1)
 rust-neighbors-zoom-1 x y = rust-siblings x y 1
 
--- "From zoom 2 `tile_edge_info` compares with 2^z, so a tile on the right or bottom edge is taken for another kind": of the nine only four are met
+-- "From zoom 2 `tile_edge_info` compares with 2^z, so a tile on the right or bottom edge is taken for another kind": of the nine only
+-- four are met
 pub the-kinds-of-the-map : (x y z : ℕ) → To29 x y z → rustEdge x y z ≡ returns (armOf x y)
 the-kinds-of-the-map x y z m =
     let c = m .column in
     let r = m .row in
-    rw (fits 32 (2 ^ z) (power-fits (m .zoom)), ne-eqb x (2 ^ z) (λ e. omega arith), ne-eqb y (2 ^ z) (λ e. omega arith)) (pick (eqb x 0) (eqb y 0))
+    rw (fits 32 (2 ^ z) (power-fits (m .zoom)), ne-eqb x (2 ^ z) (λ e. omega arith), ne-eqb y (2 ^ z) (λ e. omega arith))
+    (pick (eqb x 0) (eqb y 0))
   where
     pick : (a b : Bool) → cond (a && b) (returns TopLeft) (returns (edgeBy a b false false)) ≡ returns (armBy a b)
     pick true true = refl
@@ -123,7 +126,14 @@ exactly-the-tiles-beside-it x y (suc zero) t m = (λ k. there (family .0 k), λ 
     there s =
         let c = m .column in
         let r = m .row in
-        record { zoom = s .zoom; on-map = omega (arith, s .parent); columns = omega (arith, s .parent); rows = omega (arith, s .parent); another = s .another }
+        record {
+          zoom = s .zoom;
+          on-map = omega (arith, s .parent);
+          columns = omega (arith, s .parent);
+          rows =
+              omega (arith, s .parent);
+          another = s .another;
+        }
 
     back : Beside x y 1 t → Sibling x y 1 t
     back b =
@@ -136,7 +146,8 @@ wide : (z : ℕ) → 4 ≤ 2 ^ suc (suc z)
 wide z = omega (arith, pow-suc 2 (suc z), pow-suc 2 z, pow-pos z)
 
 -- on either kind of map every neighbour is a tile of the map, ..
-pub neighbors-on-the-map : (seam : Seam) (x y z : ℕ) (t : Tile) → OnMap x y z → List·Memᴰ t (neighborsOf seam x y z) → OnMap (t .x) (t .y) (t .z)
+pub neighbors-on-the-map : (seam : Seam) (x y z : ℕ) (t : Tile) → OnMap x y z → List·Memᴰ t (neighborsOf seam x y z)
+    → OnMap (t .x) (t .y) (t .z)
 neighbors-on-the-map seam x y zero t m k = absurd (List·Memᴰ·not-nil k)
 neighbors-on-the-map seam x y (suc zero) t m k = siblings-on-the-map x y 1 t m (omega arith) k
 neighbors-on-the-map seam x y (suc (suc z)) t m k =

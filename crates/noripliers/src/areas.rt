@@ -30,7 +30,8 @@ pub extern "C" fn nori_common_part(a: &[u64], b: &[u64], out: &mut [u64], count:
 // Refused: 6, 7, 11, 12.
 #[no_mangle]
 pub extern "C" fn nori_difference(a: &[u64], b: &[u64], out: &mut [u64], count: &mut u64) -> u8
-    ensures { λ r. ⌜ answeredIn r (now (count .exit)) (now (out .exit)) ≡ differenceOf (now (a .entry)) (now (b .entry)) (now (out .entry)) ⌝ }
+    ensures { λ r. ⌜ answeredIn r (now (count .exit)) (now (out .exit))
+        ≡ differenceOf (now (a .entry)) (now (b .entry)) (now (out .entry)) ⌝ }
 {
     c_merge::difference(a, b, out, count)
 }

@@ -66,7 +66,8 @@ pub extern "C" fn nori_bbox_contains_bbox(
     northern: f64,
     told: &mut u8,
 ) -> u8
-    ensures { λ r. ⌜ answered r (now (told .exit)) ≡ asByte (never (containsBox (box west south east north) (box western southern eastern northern))) ⌝ }
+    ensures { λ r. ⌜ answered r (now (told .exit))
+        ≡ asByte (never (containsBox (box west south east north) (box western southern eastern northern))) ⌝ }
 {
     c_bbox::contains_bbox(
         west,
@@ -95,7 +96,8 @@ pub extern "C" fn nori_bbox_is_within(
     northern: f64,
     told: &mut u8,
 ) -> u8
-    ensures { λ r. ⌜ answered r (now (told .exit)) ≡ asByte (never (within (box west south east north) (box western southern eastern northern))) ⌝ }
+    ensures { λ r. ⌜ answered r (now (told .exit))
+        ≡ asByte (never (within (box west south east north) (box western southern eastern northern))) ⌝ }
 {
     c_bbox::is_within(
         west,
@@ -124,7 +126,8 @@ pub extern "C" fn nori_bbox_intersects(
     northern: f64,
     told: &mut u8,
 ) -> u8
-    ensures { λ r. ⌜ answered r (now (told .exit)) ≡ asByte (never (meets (box west south east north) (box western southern eastern northern))) ⌝ }
+    ensures { λ r. ⌜ answered r (now (told .exit))
+        ≡ asByte (never (meets (box west south east north) (box western southern eastern northern))) ⌝ }
 {
     c_bbox::intersects(
         west,

@@ -71,7 +71,8 @@ pub extern "C" fn nori_form_finish(
     out: &mut [u8],
     count: &mut u64,
 ) -> u8
-    ensures { λ r. ⌜ answeredIn r (now (count .exit)) (now (out .exit)) ≡ written 0 (said (take len (now (line .entry))) []) (now (out .entry)) ⌝ }
+    ensures { λ r. ⌜ answeredIn r (now (count .exit)) (now (out .exit))
+        ≡ written 0 (said (take len (now (line .entry))) []) (now (out .entry)) ⌝ }
 {
     c_forms::finish(line, len, out, count)
 }

@@ -17,7 +17,8 @@ pub extern "C" fn nori_iter_parents(
     ty: &mut u32,
     tz: &mut u8,
 ) -> u8
-    ensures { λ r. ⌜ answered r (heldAt (now (count .exit)) (now (tx .exit)) (now (ty .exit)) (now (tz .exit))) ≡ parentsNumbers (iterOf x y z) ⌝ }
+    ensures { λ r. ⌜ answered r (heldAt (now (count .exit)) (now (tx .exit)) (now (ty .exit)) (now (tz .exit)))
+        ≡ parentsNumbers (iterOf x y z) ⌝ }
 {
     c_parent::iter_parents(x, y, z, count, tx, ty, tz)
 }
@@ -41,7 +42,8 @@ pub extern "C" fn nori_parents_next(
     rz: &mut u8,
 ) -> u8
     ensures { λ r. ⌜ answered r (nextAt (heldAt (now (count .exit)) (now (tx .exit)) (now (ty .exit)) (now (tz .exit)))
-        (heldAt (now (rest .exit)) (now (rx .exit)) (now (ry .exit)) (now (rz .exit)))) ≡ nextNumbers (parentsNextOf (holding held x y z)) ⌝ }
+        (heldAt (now (rest .exit)) (now (rx .exit)) (now (ry .exit)) (now (rz .exit))))
+        ≡ nextNumbers (parentsNextOf (holding held x y z)) ⌝ }
 {
     c_parent::next(held, x, y, z, count, tx, ty, tz, rest, rx, ry, rz)
 }

@@ -53,7 +53,8 @@ pub extern "C" fn nori_zbox_from_tile(
     top: &mut u32,
     bottom: &mut u32,
 ) -> u8
-    ensures { λ r. ⌜ answered r (boxAt (now (bz .exit)) (now (left .exit)) (now (right .exit)) (now (top .exit)) (now (bottom .exit))) ≡ fromTileOf x y z ⌝ }
+    ensures { λ r. ⌜ answered r (boxAt (now (bz .exit)) (now (left .exit)) (now (right .exit)) (now (top .exit)) (now (bottom .exit)))
+        ≡ fromTileOf x y z ⌝ }
 {
     c_zbox::from_tile(x, y, z, bz, left, right, top, bottom)
 }

@@ -65,7 +65,8 @@ pub extern "C" fn nori_zoom_ranges(
     highs: &mut [u8],
     count: &mut u64,
 ) -> u8
-    ensures { λ r. ⌜ givenTwo r (now (count .exit)) (now (lows .exit)) (now (highs .exit)) ≡ rangesOf zset (now (lows .entry)) (now (highs .entry)) ⌝ }
+    ensures { λ r. ⌜ givenTwo r (now (count .exit)) (now (lows .exit)) (now (highs .exit))
+        ≡ rangesOf zset (now (lows .entry)) (now (highs .entry)) ⌝ }
 {
     c_zoom::zoom_ranges(zset, lows, highs, count)
 }
@@ -106,7 +107,8 @@ pub extern "C" fn nori_zset_zoom_ranges(
     highs: &mut [u8],
     count: &mut u64,
 ) -> u8
-    ensures { λ r. ⌜ givenTwo r (now (count .exit)) (now (lows .exit)) (now (highs .exit)) ≡ rangesOf zset (now (lows .entry)) (now (highs .entry)) ⌝ }
+    ensures { λ r. ⌜ givenTwo r (now (count .exit)) (now (lows .exit)) (now (highs .exit))
+        ≡ rangesOf zset (now (lows .entry)) (now (highs .entry)) ⌝ }
 {
     c_zoom::zoom_ranges(zset, lows, highs, count)
 }

@@ -28,4 +28,5 @@ above-parent x y (suc z) m (Found t) e =
     let f : t ≡ tileAt (x / 2) (y / 2) (suc z - 1) = ap (λ (a : Answer Tile). a .value) (e ∙ nearest-parent m (omega arith)) in
     let g : suc z - 1 ≡ z = omega arith in
     ap Some (rw g at f)
-above-parent x y (suc z) m (Refused why) e = absurd (never-zero why (ap (λ (a : Answer Tile). a .number) (e ∙ nearest-parent m (omega arith))))
+above-parent x y (suc z) m (Refused why) e =
+    absurd (never-zero why (ap (λ (a : Answer Tile). a .number) (e ∙ nearest-parent m (omega arith))))

@@ -41,7 +41,8 @@ all-ancestors-and-then-nothing (suc turns) x y zero m h = all-ancestors-and-then
 all-ancestors-and-then-nothing (suc turns) x y (suc z) m h =
     let e : suc z - 1 ≡ z = omega arith in
     let u : OnMap (x / 2) (y / 2) z = rw e at (half-on-map m (omega arith)) in
-    rw (on-map-accepted u) (ap (λ (ts : List Tile). tileAt (x / 2) (y / 2) z ∷ ts) (all-ancestors-and-then-nothing turns (x / 2) (y / 2) z u (omega arith)))
+    rw (on-map-accepted u)
+    (ap (λ (ts : List Tile). tileAt (x / 2) (y / 2) z ∷ ts) (all-ancestors-and-then-nothing turns (x / 2) (y / 2) z u (omega arith)))
 
 -- none for the root: accepted, and nothing given
 pub none-for-the-root : aboveOf 0 0 0 ≡ None

@@ -3,7 +3,8 @@
 use mathlib.Core.Path.{_≡_, refl, sym, ap, _∙_, fun-ext}
 use mathlib.Core.Logic.{_⊎_, inl, inr}
 use mathlib.Core.Bool.{Bool, true, false}
-use mathlib.Core.List.{List, [], _∷_, List·Memᴰ, List·Memᴰ·head, List·Memᴰ·not-nil, List·Memᴰ·cases-cons, List·Memᴰ·eq-of-singleton, Memᴰ·cast}
+use mathlib.Core.List.{List, [], _∷_, List·Memᴰ, List·Memᴰ·head, List·Memᴰ·not-nil, List·Memᴰ·cases-cons, List·Memᴰ·eq-of-singleton}
+use mathlib.Core.List.{Memᴰ·cast}
 use Prim.Native.Nat.{ℕ, _-_, _≤_, _<_}
 use native.Mathlib.Omega.{arith}
 use lib.Dec.{ltb}
@@ -59,7 +60,8 @@ module _ {ts : List Tile} (here : InFirstColumn ts) where
   -- they name just these tiles
   listed-in : (t : Tile) → List·Memᴰ t ts → listed (entriesOf ts) t ≡ true
   listed-in t m =
-      names entryTile (entriesOf ts) (entryOf (t .x) (t .y) (t .z)) t (into-map (λ (t : Tile). entryOf (t .x) (t .y) (t .z)) ts m) (again t m)
+      names entryTile (entriesOf ts) (entryOf (t .x) (t .y) (t .z)) t (into-map (λ (t : Tile). entryOf (t .x) (t .y) (t .z)) ts m)
+      (again t m)
 
   listed-of : (t : Tile) → listed (entriesOf ts) t ≡ true → List·Memᴰ t ts
   listed-of t e =
@@ -73,12 +75,14 @@ module _ {ts : List Tile} (here : InFirstColumn ts) where
   -- and the list of that set is the entries themselves
   listed-again : entriesInOrder (listed (entriesOf ts)) ≡ entriesOf ts
   listed-again =
-      ap entriesOf (sym (in-order-is maxZoom (listed (entriesOf ts)) ts (here .in-order) (λ t m. (here .of-map t m, listed-in t m)) (λ t v e. listed-of t e)))
+      ap entriesOf (sym (in-order-is maxZoom (listed (entriesOf ts)) ts (here .in-order) (λ t m. (here .of-map t m, listed-in t m))
+      (λ t v e. listed-of t e)))
 
   -- a family has a tile in an odd column
   no-family : (p : Tile) → whole (listed (entriesOf ts)) p ≡ true → ⊥
   no-family p e =
-      let x = here .first (child p 1 1) (listed-of (child p 1 1) (whole-all (listed (entriesOf ts)) p .0 e 1 1 (omega arith) (omega arith))) in
+      let x = here .first (child p 1 1)
+      (listed-of (child p 1 1) (whole-all (listed (entriesOf ts)) p .0 e 1 1 (omega arith) (omega arith))) in
       omega arith
 
   nothing-joins : (m : ℕ) (t : Tile) → joins m (listed (entriesOf ts)) t ≡ false
@@ -88,7 +92,8 @@ module _ {ts : List Tile} (here : InFirstColumn ts) where
 none-here : InFirstColumn []
 none-here = record { of-map = λ t m. absurd (List·Memᴰ·not-nil m); in-order = tt; first = λ t m. absurd (List·Memᴰ·not-nil m) }
 
-one-more : {ts : List Tile} (t : Tile) → Valid maxZoom t → t .x ≡ 0 → ((u : Tile) → List·Memᴰ u ts → Before t u) → InFirstColumn ts → InFirstColumn (t ∷ ts)
+one-more : {ts : List Tile} (t : Tile) → Valid maxZoom t → t .x ≡ 0 → ((u : Tile) → List·Memᴰ u ts → Before t u) → InFirstColumn ts
+    → InFirstColumn (t ∷ ts)
 one-more {ts} t v x before here = record {
   of-map = λ u m. valid u (List·Memᴰ·cases-cons m);
   in-order = (before, here .in-order);
@@ -119,7 +124,8 @@ one = tile ∷ []
 
 one-here : InFirstColumn one
 unfolding maxZoom
-one-here = one-more tile (record { zoom = omega arith; column = omega arith; row = omega arith }) refl (λ u m. absurd (List·Memᴰ·not-nil m)) none-here
+one-here = one-more tile (record { zoom = omega arith; column = omega arith; row = omega arith }) refl
+    (λ u m. absurd (List·Memᴰ·not-nil m)) none-here
 
 pub both-here : InFirstColumn both
 unfolding maxZoom
@@ -158,14 +164,16 @@ sent-zoom t e = pick (of-both t (listed-of both-here t e))
 all-uncovered : (t : Tile) → uncovered 1 sent t ≡ sent t
 all-uncovered t = bool-ext (uncovered 1 sent t) (sent t) (λ e. uncovered-of 1 sent t e .0) (λ e. pick e (uncovered-or 1 sent t e))
   where
-    pick : sent t ≡ true → (uncovered 1 sent t ≡ true) ⊎ ((s : ℕ) × (s < t .z - 1) × (sent (ancestor t s) ≡ true)) → uncovered 1 sent t ≡ true
+    pick : sent t ≡ true → (uncovered 1 sent t ≡ true) ⊎ ((s : ℕ) × (s < t .z - 1) × (sent (ancestor t s) ≡ true))
+        → uncovered 1 sent t ≡ true
     pick e (inl k) = k
     pick e (inr (s, h, k)) = let z = sent-zoom t e in let a = sent-zoom (ancestor t s) k in absurd (omega (arith, z .1, a .0))
 
 pub v1-keeps-both : entriesInOrder (simplifiedV1 maxZoom 1 (listed (entriesOf both))) ≡ entriesOf both
 unfolding simplifiedV1
 v1-keeps-both =
-    ap entriesInOrder (ap (passes maxZoom 1) (fun-ext all-uncovered) ∙ passes-same maxZoom 1 sent (nothing-joins both-here 1)) ∙ listed-again both-here
+    ap entriesInOrder (ap (passes maxZoom 1) (fun-ext all-uncovered) ∙ passes-same maxZoom 1 sent (nothing-joins both-here 1))
+    ∙ listed-again both-here
 
 -- "`simplify` keeps 0": the tile holds its child
 pub simplify-keeps-one : entriesInOrder (simplified maxZoom 1 (listed (entriesOf both))) ≡ entriesOf one

@@ -1,5 +1,6 @@
--- Document 01's plates as one table, `table`, under one statement, `Plates`; the theorem is `plates`, and nothing is assumed. A row has the paper's
--- words, what the definition in a call's promise gives, and what the paper says. The lines that the paper marks † are all here, and three of its others.
+-- Document 01's plates as one table, `table`, under one statement, `Plates`; the theorem is `plates`, and nothing is assumed. A row
+-- has the paper's words, what the definition in a call's promise gives, and what the paper says. The lines that the paper marks † are
+-- all here, and three of its others.
 use mathlib.Core.Path.{_≡_, refl}
 use mathlib.Core.List.{[], _∷_}
 use Prim.Native.Nat.{_+_, _-_, _^_}
@@ -57,7 +58,8 @@ table parent = row "† parent of (3,5,3): (1,2,2)" (parentOf 3 5 3 (unwrapOr No
 table parent-2 = row "parent of (3,5,3), n = 2: the root" (parentOf 3 5 3 (unwrapOr (Some 2) 0)) (accepted (tileAt 0 0 0))
 table parent-3 = row "† parent of (3,5,3), n = 3: refusal 3" (parentOf 3 5 3 (unwrapOr (Some 3) 0)) (refused 3 noTile)
 table siblings =
-    row "† siblings of (3,5,3): (2,5), (3,4), (2,4)" (siblingsWritten 3 5 3) (written 0 (entriesOf (tileAt 2 5 3 ∷ tileAt 3 4 3 ∷ tileAt 2 4 3 ∷ [])))
+    row "† siblings of (3,5,3): (2,5), (3,4), (2,4)" (siblingsWritten 3 5 3)
+    (written 0 (entriesOf (tileAt 2 5 3 ∷ tileAt 3 4 3 ∷ tileAt 2 4 3 ∷ [])))
 table neighbours =
     row "† neighbours of (3,0,2): (3,1), (2,0), (2,1)" (neighborsWritten Cut 3 0 2)
     (written 0 (entriesOf (tileAt 3 1 2 ∷ tileAt 2 0 2 ∷ tileAt 2 1 2 ∷ [])))

@@ -41,8 +41,8 @@ accepted v = record { number = 0; value = v }
 abbrev pub refused : {A : Type 0} → ℕ → A → Answer A
 refused n none = record { number = n; value = none }
 
--- of a list that is sent these entries are kept: their count, and they at the front of the memory with 0 in the other places that are asked for;
--- 12 where those places are not there
+-- of a list that is sent these entries are kept: their count, and they at the front of the memory with 0 in the other places that are
+-- asked for; 12 where those places are not there
 abbrev pub keeps : List ℕ → List ℕ → List ℕ → Lent ℕ
 keeps sent kept memory = listAnswer (12 when ltb (length memory) (length sent)) 0 (length kept) sent kept memory
 

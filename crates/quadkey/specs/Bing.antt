@@ -61,6 +61,7 @@ module _ (x y : ℕ) where
   odd-bit zero i h = absurd (omega arith)
   odd-bit (suc z) i h = pick (decLt i z) (odd-bit z i)
     where
-      pick : Dec (i < z) → (i < z → bit (base4 (keyFrom 0 x y z)) (2 * i + 1) ≡ bit y i) → bit (base4 (keyFrom 0 x y (suc z))) (2 * i + 1) ≡ bit y i
+      pick : Dec (i < z) → (i < z → bit (base4 (keyFrom 0 x y z)) (2 * i + 1) ≡ bit y i)
+          → bit (base4 (keyFrom 0 x y (suc z))) (2 * i + 1) ≡ bit y i
       pick (yes l) below = rw (one-more z, bit-below (digitAt x y z) (2 * z) (base4 (keyFrom 0 x y z)) (2 * i + 1) (omega arith)) (below l)
       pick (no n) below = let e : i ≡ z = omega arith in rw (e, ← bit-shift (base4 (keyFrom 0 x y (suc z))) (2 * z) 1, top z) (omega arith)

@@ -49,7 +49,8 @@ pub spelled-column : (x y z : ℕ) → spelled 0 (keyOf x y z) ≡ x % 2 ^ z
 unfolding keyFrom spelled
 spelled-column x y zero = sym (mod-one x)
 spelled-column x y (suc z) =
-    let e : bit (48 + digitAt x y z - 48) 0 ≡ bit x z = rw (add-sub-cancel-left 48 (digitAt x y z), div-one (digitAt x y z)) (omega arith) in
+    let e : bit (48 + digitAt x y z - 48) 0 ≡ bit x z =
+    rw (add-sub-cancel-left 48 (digitAt x y z), div-one (digitAt x y z)) (omega arith) in
     rw (e, key-length 48 x y z, spelled-column x y z) (sym (low-bits-suc x z))
 
 pub spelled-row : (x y z : ℕ) → spelled 1 (keyOf x y z) ≡ y % 2 ^ z
@@ -147,7 +148,8 @@ refused-byte key e = pick (ltb maxZoom (length key)) refl (allDigits key) refl e
     pick false p true q e = absurd (omega arith)
 
 -- whether all bytes from place i on are digits, a byte at a time
-pub rest-digit : (key : List ℕ) (i : ℕ) → i < length key → isDigit (getD key i 0) ≡ true → allDigits (drop i key) ≡ allDigits (drop (i + 1) key)
+pub rest-digit : (key : List ℕ) (i : ℕ) → i < length key → isDigit (getD key i 0) ≡ true
+    → allDigits (drop i key) ≡ allDigits (drop (i + 1) key)
 unfolding allDigits
 rest-digit key i h e = rw (add-one i, drop-cons key i 0 h, e)
 
@@ -185,10 +187,12 @@ spelled-fits j key i h k =
     lt-of-lt-of-le (spelled-small j (take i key)) (pow-mono l)
 
 pub filled : (base x y z : ℕ) (memory : List ℕ) → front z (keyFrom base x y z) memory ≡ keyFrom base x y z ++ drop z memory
-filled base x y z memory = ap (λ (l : List ℕ). l ++ drop z memory) (take-all z (keyFrom base x y z) (rw (key-length base x y z) (omega arith)))
+filled base x y z memory =
+    ap (λ (l : List ℕ). l ++ drop z memory) (take-all z (keyFrom base x y z) (rw (key-length base x y z) (omega arith)))
 
 -- one flipped digit more is written
-pub fill-flipped : (key memory out : List ℕ) (i d : ℕ) → i < length key → length key ≤ length memory → out ≡ front i (map flipDigit key) memory
+pub fill-flipped : (key memory out : List ℕ) (i d : ℕ) → i < length key → length key ≤ length memory
+    → out ≡ front i (map flipDigit key) memory
     → d ≡ flipDigit (getD key i 0) → set out i d ≡ front (i + 1) (map flipDigit key) memory
 fill-flipped key memory out i d h k e f =
     let n : i < length (map flipDigit key) = rw (length-map key flipDigit) h in

@@ -208,7 +208,8 @@ byte-is-digit b h = rw (and-high b 6 2, shr-mod 6 2 h) (pick (leb 48 b) refl (le
 pub bytes-are-digits : (key : List ℕ) → areBytes key ≡ true → allBytes key ≡ allDigits key
 unfolding allBytes allDigits
 bytes-are-digits [] e = refl
-bytes-are-digits (b ∷ bs) e = let p = and-parts (ltb b 256) (areBytes bs) e in rw (byte-is-digit b (ltb-true _ _ (p .0)), bytes-are-digits bs (p .1))
+bytes-are-digits (b ∷ bs) e = let p = and-parts (ltb b 256) (areBytes bs) e in
+    rw (byte-is-digit b (ltb-true _ _ (p .0)), bytes-are-digits bs (p .1))
 
 -- a key of at most 29 bytes: the length passes both tests
 pub quadkey-is-key : (key : List ℕ) → areBytes key ≡ true → length key ≤ 29 → isQuadkey key ≡ isKey key
@@ -257,7 +258,8 @@ folded-more x y z b h k l m n =
     )
 
 fold-spells : (key : List ℕ) (x y z : ℕ) → allDigits key ≡ true → x < 2 ^ z → y < 2 ^ z → z + length key ≤ 31
-    → foldFrom (tileAt x y z) key ≡ returns (tileAt (x * 2 ^ length key + spelled 0 key) (y * 2 ^ length key + spelled 1 key) (z + length key))
+    → foldFrom (tileAt x y z) key
+    ≡ returns (tileAt (x * 2 ^ length key + spelled 0 key) (y * 2 ^ length key + spelled 1 key) (z + length key))
 unfolding foldFrom spelled
 fold-spells [] x y z e h k l =
     let a : x * 1 + 0 ≡ x = omega arith in
@@ -318,8 +320,10 @@ mark-spells (b ∷ bs) i p q z e f l =
       m,
       one-shifted 32 n (omega arith),
       by-digit (λ b. (eqb b 48 || eqb b 49 || eqb b 50 || eqb b 51) ≡ true) refl refl refl refl b (d .0),
-      mark-more (eqb b 49 || eqb b 51) (bit (b - 48) 0) n p (by-digit (λ b. bit (b - 48) 0 ≡ cond (eqb b 49 || eqb b 51) 1 0) refl refl refl refl b (d .0)),
-      mark-more (eqb b 50 || eqb b 51) (bit (b - 48) 1) n q (by-digit (λ b. bit (b - 48) 1 ≡ cond (eqb b 50 || eqb b 51) 1 0) refl refl refl refl b (d .0)),
+      mark-more (eqb b 49 || eqb b 51) (bit (b - 48) 0) n p
+          (by-digit (λ b. bit (b - 48) 0 ≡ cond (eqb b 49 || eqb b 51) 1 0) refl refl refl refl b (d .0)),
+      mark-more (eqb b 50 || eqb b 51) (bit (b - 48) 1) n q
+          (by-digit (λ b. bit (b - 48) 1 ≡ cond (eqb b 50 || eqb b 51) 1 0) refl refl refl refl b (d .0)),
       mark-spells bs (suc i) (p * 2 + bit (b - 48) 0) (q * 2 + bit (b - 48) 1) z (d .1) (omega arith) l,
       pow-suc 2 n,
     ) (ap returns (same-tile (omega arith) (omega arith) refl))

@@ -38,7 +38,8 @@ tile-to-key-to-tile x y z m =
 
 -- a key that is not refused leads to a tile of the map, and that tile back to the key
 pub key-to-tile-to-key : (key : List ℕ) → keyRefusal key ≡ 0
-    → (keyTile key ≡ found (tileOf key)) × OnMap (columnOf key) (rowOf key) (length key) × (keyOf (columnOf key) (rowOf key) (length key) ≡ key)
+    → (keyTile key ≡ found (tileOf key)) × OnMap (columnOf key) (rowOf key) (length key)
+    × (keyOf (columnOf key) (rowOf key) (length key) ≡ key)
 key-to-tile-to-key key e =
     let k = accepted-key key e in
     (rw e, record { zoom = k .0; column = spelled-small 0 key; row = spelled-small 1 key }, key-again key (k .1))
@@ -72,7 +73,8 @@ the-accepted-keys key = (
   λ k. key-accepted key (k .0) (all-digits key (λ i h. rw (le-leb _ _ (k .1 i h .0), le-leb _ _ (k .1 i h .1)))),
 )
 
--- "4 more than 29 bytes; 5 a byte other than 48 to 51", "The lowest number that applies is given": 4 whatever the bytes are, 5 where the length is right
+-- "4 more than 29 bytes; 5 a byte other than 48 to 51", "The lowest number that applies is given": 4 whatever the bytes are, 5 where
+-- the length is right
 pub four-is-too-long : (key : List ℕ) → keyRefusal key ≡ 4 ↔ maxZoom < length key
 four-is-too-long key = (refused-long key, key-too-long key)
 

@@ -26,7 +26,8 @@ below-double w h = (lt-of-lt-of-le h (pow-mono (omega arith)), rw (double-power 
 
 -- a pair of groups
 module _ (w hi lo : ℕ) (h : hi < 2 ^ w) (l : lo < 2 ^ w) where
-  pair-apart : bitAnd (bitOr (hi * 2 ^ w + lo) ((hi * 2 ^ w + lo) * 2 ^ w)) ((2 ^ w - 1) * 2 ^ (2 * w) + (2 ^ w - 1)) ≡ hi * 2 ^ (2 * w) + lo
+  pair-apart : bitAnd (bitOr (hi * 2 ^ w + lo) ((hi * 2 ^ w + lo) * 2 ^ w)) ((2 ^ w - 1) * 2 ^ (2 * w) + (2 ^ w - 1))
+      ≡ hi * 2 ^ (2 * w) + lo
   pair-apart =
       let p = 2 ^ w in
       let o = 2 ^ w - 1 in
@@ -54,7 +55,8 @@ module _ (w hi lo : ℕ) (h : hi < 2 ^ w) (l : lo < 2 ^ w) where
 low-pair : (w n : ℕ) → n % 2 ^ (2 * w) ≡ n / 2 ^ w % 2 ^ w * 2 ^ w + n % 2 ^ w
 low-pair w n = let e : 2 * w ≡ w + w = omega arith in rw e (mod-pow-add n w w)
 
-apart-pair : (w c n : ℕ) → apart w (2 * suc c) n ≡ apart w (2 * c) (n / 2 ^ (2 * w)) * 2 ^ (2 * (2 * w)) + (n / 2 ^ w % 2 ^ w * 2 ^ (2 * w) + n % 2 ^ w)
+apart-pair : (w c n : ℕ)
+    → apart w (2 * suc c) n ≡ apart w (2 * c) (n / 2 ^ (2 * w)) * 2 ^ (2 * (2 * w)) + (n / 2 ^ w % 2 ^ w * 2 ^ (2 * w) + n % 2 ^ w)
 unfolding apart
 apart-pair w c n =
     let e : 2 * suc c ≡ suc (suc (2 * c)) = omega arith in
@@ -82,12 +84,14 @@ move-apart w (suc c) n =
     let shifted : (v * 2 ^ k + f) * 2 ^ w ≡ v * 2 ^ w * 2 ^ k + f * 2 ^ w = omega arith in
     let pair = pair-apart w (n / 2 ^ w % 2 ^ w) (n % 2 ^ w) (mod-lt (n / 2 ^ w) (pow-pos w)) (mod-lt n (pow-pos w)) in
     ap₂ bitAnd (ap (bitOr (v * 2 ^ k + f)) shifted ∙ or-block k v (v * 2 ^ w) f (f * 2 ^ w) low shifted-low) (groups-pair w c)
-    ∙ (and-block k (bitOr v (v * 2 ^ w)) (groups w (2 * c)) (bitOr f (f * 2 ^ w)) (o * 2 ^ (2 * w) + o) (or-lt k f (f * 2 ^ w) low shifted-low) mask
+    ∙ (and-block k (bitOr v (v * 2 ^ w)) (groups w (2 * c)) (bitOr f (f * 2 ^ w)) (o * 2 ^ (2 * w) + o)
+    (or-lt k f (f * 2 ^ w) low shifted-low) mask
     ∙ (ap₂ (λ (a b : ℕ). a * 2 ^ k + b) (move-apart w c (n / 2 ^ (2 * w))) (rw (low-pair w n) pair) ∙ sym (apart-pair w c n)))
 
 -- all but the lowest group
 group-off : (w a b h l : ℕ)
-    → (a * 2 ^ w + b) * 2 ^ (2 * (2 * w)) + (h * 2 ^ (2 * w) + l) ≡ (a * 2 ^ (2 * (2 * w)) + (b * 2 ^ w * 2 ^ (2 * w) + h * 2 ^ w)) * 2 ^ w + l
+    → (a * 2 ^ w + b) * 2 ^ (2 * (2 * w)) + (h * 2 ^ (2 * w) + l)
+    ≡ (a * 2 ^ (2 * (2 * w)) + (b * 2 ^ w * 2 ^ (2 * w) + h * 2 ^ w)) * 2 ^ w + l
 group-off w a b h l = rw (double-power (2 * w), double-power w) (omega arith)
 
 -- and together again
@@ -109,11 +113,14 @@ move-together w (suc c) n =
     let above : r < 2 ^ k = rw d (digits-lt (below-double w (mod-lt v (pow-pos w)) .1) (below-double w h .1)) in
     let whole : v * 2 ^ k + g ≡ (v / 2 ^ w * 2 ^ w + v % 2 ^ w) * 2 ^ k + g = ap (λ (m : ℕ). m * 2 ^ k + g) (sym (split v w)) in
     let parts : v * 2 ^ k + g ≡ (v / 2 ^ w * 2 ^ k + r) * 2 ^ w + lo = whole ∙ group-off w (v / 2 ^ w) (v % 2 ^ w) hi lo in
-    let shifted : (v * 2 ^ k + g) / 2 ^ w ≡ v / 2 ^ w * 2 ^ k + r = ap (λ (m : ℕ). m / 2 ^ w) parts ∙ digits-div (v / 2 ^ w * 2 ^ k + r) l in
-    let pair : bitAnd (bitOr g r) (2 ^ (2 * w) - 1) ≡ n % 2 ^ (2 * w) = and-mask (bitOr g r) (2 * w) ∙ (pair-together w hi lo h l u ∙ sym (low-pair w n)) in
+    let shifted : (v * 2 ^ k + g) / 2 ^ w ≡ v / 2 ^ w * 2 ^ k + r =
+    ap (λ (m : ℕ). m / 2 ^ w) parts ∙ digits-div (v / 2 ^ w * 2 ^ k + r) l in
+    let pair : bitAnd (bitOr g r) (2 ^ (2 * w) - 1) ≡ n % 2 ^ (2 * w) =
+    and-mask (bitOr g r) (2 * w) ∙ (pair-together w hi lo h l u ∙ sym (low-pair w n)) in
     ap (λ (m : ℕ). bitAnd (bitOr m (m / 2 ^ w)) (groups (2 * w) (suc c))) (apart-pair w c n)
     ∙ (ap (λ (m : ℕ). bitAnd m (groups (2 * w) (suc c))) (ap (bitOr (v * 2 ^ k + g)) shifted ∙ or-block k v (v / 2 ^ w) g r below above)
-    ∙ (and-block k (bitOr v (v / 2 ^ w)) (groups (2 * w) c) (bitOr g r) (2 ^ (2 * w) - 1) (or-lt k g r below above) (below-double (2 * w) (ones-lt (2 * w)) .0)
+    ∙ (and-block k (bitOr v (v / 2 ^ w)) (groups (2 * w) c) (bitOr g r) (2 ^ (2 * w) - 1) (or-lt k g r below above)
+    (below-double (2 * w) (ones-lt (2 * w)) .0)
     ∙ ap₂ (λ (a b : ℕ). a * 2 ^ k + b) (move-together w c (n / 2 ^ (2 * w))) pair))
 
 -- how the groups begin and end
@@ -156,7 +163,8 @@ up-apart w c n h =
     let l : apart (2 * w) c n * 2 ^ w < 2 ^ 64 = lt-of-le-of-lt (mul-le-mul-right (2 ^ w) (apart-within (2 * w) c n)) h in
     rw (mod-eq-of-lt l) (move-apart w c n)
 
-pub spread-steps : (n : ℕ) → n < 2 ^ 32 → up 1 (groups 1 32) (up 2 (groups 2 16) (up 4 (groups 4 8) (up 8 (groups 8 4) (up 16 (groups 16 2) n)))) ≡ apart 1 32 n
+pub spread-steps : (n : ℕ) → n < 2 ^ 32
+    → up 1 (groups 1 32) (up 2 (groups 2 16) (up 4 (groups 4 8) (up 8 (groups 8 4) (up 16 (groups 16 2) n)))) ≡ apart 1 32 n
 unfolding groups
 spread-steps n h =
     let a = ap (up 16 (groups 16 2)) (sym (apart-one 32 n h)) ∙ up-apart 16 1 n (omega arith) in
@@ -166,7 +174,8 @@ spread-steps n h =
     ap (up 1 (groups 1 32)) d ∙ up-apart 1 16 n (omega arith)
 
 pub gather-steps : (n : ℕ)
-    → down 16 (groups 32 1) (down 8 (groups 16 2) (down 4 (groups 8 4) (down 2 (groups 4 8) (down 1 (groups 2 16) (bitAnd n (groups 1 32)))))) ≡ evenBits 32 n
+    → down 16 (groups 32 1)
+    (down 8 (groups 16 2) (down 4 (groups 8 4) (down 2 (groups 4 8) (down 1 (groups 2 16) (bitAnd n (groups 1 32)))))) ≡ evenBits 32 n
 gather-steps n =
     let e = evenBits 32 n in
     let a = ap (down 1 (groups 2 16)) (even-groups 32 n) ∙ move-together 1 16 e in

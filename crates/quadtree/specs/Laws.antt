@@ -2,7 +2,8 @@
 use mathlib.Core.Path.{_≡_, refl, sym, ap, _∙_}
 use mathlib.Core.Logic.{_⊎_, inl, inr}
 use Prim.Native.Nat.{ℕ, zero, suc, _+_, _-_, _*_, _/_, _%_, _^_, _≤_, _<_}
-use native.Mathlib.Nat.{mul-lt-mul-of-pos-right, pow-suc, pow-succ', div-div-eq-div-mul, pow-le-pow-right, mod-eq-of-lt, mul-assoc, add-mul, div-one, mod-one}
+use native.Mathlib.Nat.{mul-lt-mul-of-pos-right, pow-suc, pow-succ', div-div-eq-div-mul, pow-le-pow-right, mod-eq-of-lt, mul-assoc}
+use native.Mathlib.Nat.{add-mul, div-one, mod-one}
 use native.Mathlib.Numerals.{add-one}
 use native.Mathlib.Omega.{arith}
 use lib.Arith.{digits-lt, digits-div, digits-mod, mod-mul}
@@ -13,7 +14,8 @@ use Rattle.ids.specs.Laws.{four-power, four-side}
 use Rattle.tile.specs.Order.{Before, by-z, by-x, by-y, one-before}
 use Rattle.tile.specs.declared.Tile.{Tile}
 use Rattle.tile_set.specs.Set.{child, ancestor, parentTile}
-use Rattle.quadtree.specs.Numbers.{OfMap, mortonAt, mortonOf, locationOf, rankOf, zoomIn, evenBits, mortonTile, locationTile, rankTile}
+use Rattle.quadtree.specs.Numbers.{OfMap, mortonAt, mortonOf, locationOf, rankOf, zoomIn, evenBits, mortonTile, locationTile}
+use Rattle.quadtree.specs.Numbers.{rankTile}
 
 -- the Morton code and the tree
 
@@ -206,11 +208,13 @@ unfolding rankTile
 rank-tile t m = rw (rank-column t m, rank-row t m, rank-zoom t m, below-one (t .x) (t .z) (m .column))
 
 -- as the code takes it apart
-pub rank-taken : {r k : ℕ} (t : Tile) → OfMap t → rankOf t ≡ r → k ≡ zoomIn r → (k ≡ t .z) × (r / 2 ^ k ≡ 2 ^ t .z + t .x) × (r % 2 ^ k ≡ t .y)
+pub rank-taken : {r k : ℕ} (t : Tile) → OfMap t → rankOf t ≡ r → k ≡ zoomIn r
+    → (k ≡ t .z) × (r / 2 ^ k ≡ 2 ^ t .z + t .x) × (r % 2 ^ k ≡ t .y)
 rank-taken t m e f = rw (f, ← e) (rank-zoom t m, rank-column t m, rank-row t m)
 
 -- as the code makes it of a Morton code
-pub morton-rank : (t : Tile) → OfMap t → evenBits 32 (mortonOf t) * 2 ^ zoomIn (mortonOf t) % 2 ^ 64 + evenBits 32 (mortonOf t / 2) ≡ rankOf t
+pub morton-rank : (t : Tile) → OfMap t
+    → evenBits 32 (mortonOf t) * 2 ^ zoomIn (mortonOf t) % 2 ^ 64 + evenBits 32 (mortonOf t / 2) ≡ rankOf t
 morton-rank t m =
     let s = rank-small t m in
     let e = rank-parts t in

@@ -86,7 +86,8 @@ map-numbers {f} g (a ∷ l) each n m = pick (List·Memᴰ·cases-cons m) (map-nu
 
 pub keys-of-tiles : (by : Key) (list : List ℕ) → allOf isEntry list ≡ true → TileNumbers (sortKey by) (map (entryKey by) list)
 keys-of-tiles by list e =
-    map-numbers (entryKey by) list (λ n m. record { tile = entryTile n; on-map = accepted-entry n (eqb-true _ _ (all-in isEntry list e m)); number = refl })
+    map-numbers (entryKey by) list
+    (λ n m. record { tile = entryTile n; on-map = accepted-entry n (eqb-true _ _ (all-in isEntry list e m)); number = refl })
 
 map-at : (f : ℕ → ℕ) (l : List ℕ) (i : ℕ) → i < length l → getD (map f l) i 0 ≡ f (getD l i 0)
 map-at f [] i h = absurd (omega arith)
@@ -124,4 +125,5 @@ module _ {f : ℕ → ℕ} {list memory left : List ℕ} {i : ℕ} (m : Mapped f
   pub mapped-all : length list ≤ i → left ≡ map f list
   mapped-all h =
       let e = length-map list f in
-      m .written ∙ rw (take-all i (map f list) (omega arith), drop-of-length-le memory {i = i} (omega (arith, m .same))) (append-nil (map f list))
+      m .written ∙ rw (take-all i (map f list) (omega arith), drop-of-length-le memory {i = i} (omega (arith, m .same)))
+      (append-nil (map f list))

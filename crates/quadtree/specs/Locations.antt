@@ -1,4 +1,5 @@
--- Where tiles lie along the quadtree: a tile's run goes from `startOf` to `endOf`, round its location. Runs are nested as their tiles are, or apart.
+-- Where tiles lie along the quadtree: a tile's run goes from `startOf` to `endOf`, round its location. Runs are nested as their tiles
+-- are, or apart.
 use mathlib.Core.Path.{_≡_, sym, ap, _∙_, subst}
 use mathlib.Core.List.{List}
 use Prim.Native.Nat.{ℕ, suc, _+_, _-_, _*_, _/_, _%_, _^_, _≤_, _<_}
@@ -11,9 +12,11 @@ use lib.Pow.{pow-pos, pow-add}
 use Rattle.constants.specs.Limits.{maxZoom, maxZoom-small}
 use Rattle.ids.specs.Laws.{four-side}
 use Rattle.quadtree.specs.Numbers.{OfMap, mortonOf, locationOf, locationTile}
-use Rattle.quadtree.specs.Laws.{morton-child, morton-ancestor, morton-bounds, morton-inj, four-codes, location-zeros, location-morton, location-tile}
+use Rattle.quadtree.specs.Laws.{morton-child, morton-ancestor, morton-bounds, morton-inj, four-codes, location-zeros}
+use Rattle.quadtree.specs.Laws.{location-morton, location-tile}
 use Rattle.tile.specs.declared.Tile.{Tile}
-use Rattle.tile_set.specs.Holds.{Valid, Holds, holds-refl, holds-level, ancestor-holds, holder-is-ancestor, child-held, child-of-parent, valid-holder}
+use Rattle.tile_set.specs.Holds.{Valid, Holds, holds-refl, holds-level, ancestor-holds, holder-is-ancestor, child-held, child-of-parent}
+use Rattle.tile_set.specs.Holds.{valid-holder}
 use Rattle.tile_set.specs.Set.{ancestor, child, parentTile}
 
 pub valid-tile : (t : Tile) → OfMap t → Valid maxZoom t
@@ -49,7 +52,8 @@ low-below t = omega (arith, location-sum t)
 -- how much higher tiles are longer
 low-steps : (s t : Tile) → s .z ≤ t .z → t .z ≤ maxZoom → lowOf s ≡ 4 ^ (t .z - s .z) * lowOf t
 unfolding lowOf
-low-steps s t h k = let e : t .z - s .z + (maxZoom - t .z) ≡ maxZoom - s .z = omega arith in rw (← e) (pow-add 4 (t .z - s .z) (maxZoom - t .z))
+low-steps s t h k = let e : t .z - s .z + (maxZoom - t .z) ≡ maxZoom - s .z = omega arith in
+    rw (← e) (pow-add 4 (t .z - s .z) (maxZoom - t .z))
 
 pub holds-morton : {s t : Tile} → Holds s t → mortonOf t / 4 ^ (t .z - s .z) ≡ mortonOf s
 holds-morton {s} {t} h = sym (ap mortonOf (holder-is-ancestor h) ∙ morton-ancestor t (s .z) (h .above))
@@ -154,9 +158,11 @@ module _ (p : Tile) (h : p .z < maxZoom) where
   pub low-child : (i j : ℕ) → lowOf p ≡ 4 * lowOf (child p i j)
   low-child i j = let e : suc (p .z) - p .z ≡ 1 = omega arith in rw e at (low-steps p (child p i j) (omega arith) h)
 
-  pub location-child : (i j : ℕ) → i < 2 → j < 2 → locationOf (child p i j) + 3 * lowOf (child p i j) ≡ locationOf p + 2 * ((2 * j + i) * lowOf (child p i j))
+  pub location-child : (i j : ℕ) → i < 2 → j < 2
+      → locationOf (child p i j) + 3 * lowOf (child p i j) ≡ locationOf p + 2 * ((2 * j + i) * lowOf (child p i j))
   location-child i j a b =
-      let q : locationOf p ≡ 2 * (mortonOf p * (4 * lowOf (child p i j))) + 4 * lowOf (child p i j) = rw (low-child i j) at (location-sum p) in
+      let q : locationOf p ≡ 2 * (mortonOf p * (4 * lowOf (child p i j))) + 4 * lowOf (child p i j) =
+      rw (low-child i j) at (location-sum p) in
       let c : locationOf (child p i j) ≡ 2 * ((4 * mortonOf p + (2 * j + i)) * lowOf (child p i j)) + lowOf (child p i j) =
       rw (morton-child p i j a b) at (location-sum (child p i j)) in
       omega (arith, q, c)
@@ -164,15 +170,33 @@ module _ (p : Tile) (h : p .z < maxZoom) where
   -- from the fourth child's location to those of its siblings and of the parent
   pub third-location : locationOf (child p 0 1) ≡ locationOf (child p 1 1) - 2 * lowOf (child p 1 1)
   third-location =
-      omega (arith, low-child 0 1, low-child 1 1, location-child 0 1 (omega arith) (omega arith), location-child 1 1 (omega arith) (omega arith))
+      omega (
+        arith,
+        low-child 0 1,
+        low-child 1 1,
+        location-child 0 1 (omega arith) (omega arith),
+        location-child 1 1 (omega arith) (omega arith),
+      )
 
   pub second-location : locationOf (child p 1 0) ≡ locationOf (child p 1 1) - 2 * (2 * lowOf (child p 1 1))
   second-location =
-      omega (arith, low-child 1 0, low-child 1 1, location-child 1 0 (omega arith) (omega arith), location-child 1 1 (omega arith) (omega arith))
+      omega (
+        arith,
+        low-child 1 0,
+        low-child 1 1,
+        location-child 1 0 (omega arith) (omega arith),
+        location-child 1 1 (omega arith) (omega arith),
+      )
 
   pub first-location : locationOf (child p 0 0) ≡ locationOf (child p 1 1) - 3 * (2 * lowOf (child p 1 1))
   first-location =
-      omega (arith, low-child 0 0, low-child 1 1, location-child 0 0 (omega arith) (omega arith), location-child 1 1 (omega arith) (omega arith))
+      omega (
+        arith,
+        low-child 0 0,
+        low-child 1 1,
+        location-child 0 0 (omega arith) (omega arith),
+        location-child 1 1 (omega arith) (omega arith),
+      )
 
   pub parent-location : locationOf p ≡ locationOf (child p 1 1) - 3 * lowOf (child p 1 1)
   parent-location = omega (arith, low-child 1 1, location-child 1 1 (omega arith) (omega arith))

@@ -20,7 +20,8 @@ use Rattle.tile_set.specs.Holds.{Holds, holds-refl, holds-trans}
 use Rattle.tile_set.specs.Merged.{whole-all}
 use Rattle.tile_set.specs.Simplified.{listed}
 use Rattle.sort.specs.At.{in-at, taken-at, at-taken, taken-rising, by-at}
-use Rattle.quadtree.specs.Locations.{lowOf, startOf, endOf, low-pos, low-below, held-run, location-held, parent-of-map, IsLocation, tile-location, tiles}
+use Rattle.quadtree.specs.Locations.{lowOf, startOf, endOf, low-pos, low-below, held-run, location-held, parent-of-map, IsLocation}
+use Rattle.quadtree.specs.Locations.{tile-location, tiles}
 use Rattle.settle.specs.Settle.{Settles, Popped, Family, Joins, stop, join}
 use Rattle.settle.specs.Stack.{Among, Under, Stack, Onto, stack-none, rise-apart, pop-under, pop-top, join-holds, join-under}
 use Rattle.settle.specs.Stack.{join-end, join-top, push, push-under}
@@ -38,8 +39,10 @@ record Joined (m : ℕ) (S : Tile → Bool) (l : List ℕ) (c j n k : ℕ) : Typ
   holds : Holds (locationTile j) (locationTile k)
   keeps : (x : Tile) → Under (tiles l) n x → Under (tiles l) c x ⊎ Holds (locationTile j) x
 
-joins-done : {m c j n k : ℕ} {l : List ℕ} (S : Tile → Bool) → Joins m l c j n k → IsLocation k → Onto m S (tiles l) n (locationTile k) → Joined m S l c j n k
-joins-done {j = j} S (stop f) s g = record { top = g; none = f; location = s; ends = refl; holds = holds-refl (locationTile j); keeps = λ x u. inl u }
+joins-done : {m c j n k : ℕ} {l : List ℕ} (S : Tile → Bool) → Joins m l c j n k → IsLocation k → Onto m S (tiles l) n (locationTile k)
+    → Joined m S l c j n k
+joins-done {j = j} S (stop f) s g =
+    record { top = g; none = f; location = s; ends = refl; holds = holds-refl (locationTile j); keeps = λ x u. inl u }
 joins-done {m} {n = n} {k = k} {l = l} S (join p f r) s g =
     let o : OfMap p = parent-of-map p (rw (f .fourth) at (g .of-map)) in
     let e : locationTile (locationOf p) ≡ p = location-tile p o in
@@ -104,13 +107,15 @@ module _ (m : ℕ) (l₀ l : List ℕ) (count end i : ℕ) (f : TileNumbers loca
         where
           pick : Dec (j < i) → Under (tiles l) count (tiles l₀ j)
           pick (yes q) = M .read j q
-          pick (no q) = M .inside j (omega arith) (omega (arith, M .long)) (omega (arith, M .rest j (omega arith), ap (λ (n : ℕ). getD l n 0) e))
+          pick (no q) = M .inside j (omega arith) (omega (arith, M .long))
+              (omega (arith, M .rest j (omega arith), ap (λ (n : ℕ). getD l n 0) e))
             where
               e : i ≡ j
               e = omega arith
 
 -- a number behind the last location kept: locations are taken off, families joined, and what comes of it goes on top
-module _ (m : ℕ) (l₀ l : List ℕ) (count end i : ℕ) (f : TileNumbers locationOf l₀) (o : By (λ n. n) l₀) (M : Mid m l₀ l count end i) (h : i < length l)
+module _ (m : ℕ) (l₀ l : List ℕ) (count end i : ℕ) (f : TileNumbers locationOf l₀) (o : By (λ n. n) l₀) (M : Mid m l₀ l count end i)
+    (h : i < length l)
     (w kept c j : ℕ) (low : w ≡ lowOf (tiles l i)) (past : end ≤ getD l i 0) (q : Popped l (getD l i 0 - w) count kept)
     (r : Joins m l c j kept (getD l i 0)) where
   abbrev S : Tile → Bool
@@ -155,7 +160,8 @@ module _ (m : ℕ) (l₀ l : List ℕ) (count end i : ℕ) (f : TileNumbers loca
 
   under : (x : Tile) → Under (tiles l) c x ⊎ Holds (locationTile j) x → Under (tiles (set l c j)) (c + 1) x
   under =
-      push-under m S (tiles l) c (locationTile j) (done .top) (tiles (set l c j)) (λ n g. ap locationTile (same n (λ u. omega arith))) (ap locationTile new)
+      push-under m S (tiles l) c (locationTile j) (done .top) (tiles (set l c j)) (λ n g. ap locationTile (same n (λ u. omega arith)))
+      (ap locationTile new)
 
   kept-under : (x : Tile) → Under (tiles l) count x → Under (tiles (set l c j)) (c + 1) x
   kept-under x u =
@@ -194,7 +200,16 @@ module _ (m : ℕ) (l₀ l : List ℕ) (count end i : ℕ) (f : TileNumbers loca
           let p = location-at l₀ f n b in
           let z = by-at l₀ o i n (omega arith) b in
           location-held (locationTile j) (tiles l₀ n) (done .location .of-map) (p .of-map)
-          (omega (arith, held-run (done .holds) (location .of-map) .0, location .again, p .again, low-pos t, low-below t, z, M .rest i (omega arith)))
+          (omega (
+            arith,
+            held-run (done .holds) (location .of-map) .0,
+            location .again,
+            p .again,
+            low-pos t,
+            low-below t,
+            z,
+            M .rest i (omega arith),
+          ))
           (omega (arith, ends, p .again))
 
 -- at the end of the list

@@ -48,4 +48,5 @@ pub record Family (m : ℕ) (T : ℕ → Tile) (n : ℕ) (t p : Tile) : Type 0 w
 -- with k on top of `count` numbers, families are joined until none is there, which leaves j on top of c
 pub data Joins (m : ℕ) (l : List ℕ) (c j : ℕ) : ℕ → ℕ → Type 0 where
   stop : ((p : Tile) → Family m (tiles l) c (locationTile j) p → ⊥) → Joins m l c j c j
-  join : {count k : ℕ} (p : Tile) → Family m (tiles l) count (locationTile k) p → Joins m l c j (count - 3) (locationOf p) → Joins m l c j count k
+  join : {count k : ℕ} (p : Tile) → Family m (tiles l) count (locationTile k) p → Joins m l c j (count - 3) (locationOf p)
+      → Joins m l c j count k

@@ -10,7 +10,8 @@ use Rattle.constants.specs.Limits.{maxZoom}
 use Rattle.quadtree.specs.Numbers.{mortonOf, locationOf, locationTile}
 use Rattle.quadtree.specs.Laws.{location-tile}
 use Rattle.tile.specs.declared.Tile.{Tile}
-use Rattle.quadtree.specs.Locations.{valid-tile, map-tile, lowOf, first-location, second-location, third-location, parent-location, fourth-child}
+use Rattle.quadtree.specs.Locations.{valid-tile, map-tile, lowOf, first-location, second-location, third-location, parent-location}
+use Rattle.quadtree.specs.Locations.{fourth-child}
 use Rattle.quadtree.specs.Locations.{child-fourth, fourth-far, parent-of-map, tile-location, tiles}
 use Rattle.tile_set.specs.Holds.{valid-parent, valid-child}
 use Rattle.tile_set.specs.Set.{child, parentTile}

@@ -28,7 +28,8 @@ pub record Stack (m : ℕ) (S : Tile → Bool) (T : ℕ → Tile) (n : ℕ) : Ty
   pub of-map : (i : ℕ) → i < n → OfMap (T i)
   pub built : (i : ℕ) → i < n → Built m S (T i)
   pub rise : (i j : ℕ) → i < j → j < n → endOf (T i) ≤ startOf (T j)
-  pub no-four : (p : Tile) → m ≤ p .z → Among T n (child p 0 0) → Among T n (child p 1 0) → Among T n (child p 0 1) → Among T n (child p 1 1) → ⊥
+  pub no-four : (p : Tile) → m ≤ p .z → Among T n (child p 0 0) → Among T n (child p 1 0) → Among T n (child p 0 1)
+      → Among T n (child p 1 1) → ⊥
 
 -- t may go on top of the n tiles
 pub record Onto (m : ℕ) (S : Tile → Bool) (T : ℕ → Tile) (n : ℕ) (t : Tile) : Type 0 where
@@ -151,7 +152,8 @@ module _ (m : ℕ) (S : Tile → Bool) (T : ℕ → Tile) (n : ℕ) (t p : Tile)
           rw (four p (o .zoom) .start, ← f .first) (g .stack .rise i (n - 3) h (omega (arith, f .three)))
 
 -- tiles whose runs rise
-module _ (T : ℕ → Tile) (n : ℕ) (of-map : (i : ℕ) → i < n → OfMap (T i)) (rise : (i j : ℕ) → i < j → j < n → endOf (T i) ≤ startOf (T j)) where
+module _ (T : ℕ → Tile) (n : ℕ) (of-map : (i : ℕ) → i < n → OfMap (T i))
+    (rise : (i j : ℕ) → i < j → j < n → endOf (T i) ≤ startOf (T j)) where
   -- none of them holds another
   pub rise-apart : {a b : Tile} → Among T n a → Among T n b → Holds a b → a ≡ b
   rise-apart {a} {b} (x, u, d) (y, v, e) g = order (decLt x y) (decLt y x)
@@ -178,7 +180,8 @@ module _ (T : ℕ → Tile) (n : ℕ) (of-map : (i : ℕ) → i < n → OfMap (T
       pick (yes a) (no b) = omega arith
 
   -- four siblings among them stand together
-  pub together : (m : ℕ) (p : Tile) → m ≤ p .z → Among T n (child p 0 0) → Among T n (child p 1 0) → Among T n (child p 0 1) → Among T n (child p 1 1)
+  pub together : (m : ℕ) (p : Tile) → m ≤ p .z → Among T n (child p 0 0) → Among T n (child p 1 0) → Among T n (child p 0 1)
+      → Among T n (child p 1 1)
       → (l : ℕ) × (l < n) × Family m T l (T l) p
   together m p d (i, hi, ei) (j, hj, ej) (k, hk, ek) (l, hl, el) = (
     l,

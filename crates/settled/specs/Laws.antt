@@ -42,7 +42,8 @@ module _ (list : List ℕ) where
   noneWith = allOf (λ n. not (withSiblings list (entryTile n))) list
 
   pub apart-beside : Apart (listed list) → noneBeside ≡ true
-  apart-beside apart = in-all (λ n. not (besideAncestor list (entryTile n))) list (λ n m. ap not (is-false (besideAncestor list (entryTile n)) (never n m)))
+  apart-beside apart = in-all (λ n. not (besideAncestor list (entryTile n))) list
+      (λ n m. ap not (is-false (besideAncestor list (entryTile n)) (never n m)))
     where
       never : (n : ℕ) → List·Memᴰ n list → besideAncestor list (entryTile n) ≡ true → ⊥
       never n m e =
@@ -119,7 +120,8 @@ unfolding isSettled
 not-in-order list locations b e f = let g = sym e ∙ not-true b f in
     record { answer = rw g; in-order = λ h. absurd (false≢true h); runs = λ h. absurd (false≢true h) }
 
-module _ (list keys locations : List ℕ) (e : allOf isEntry list ≡ true) (k : keys ≡ map (entryKey Location) list) (s : locations ≡ sortN keys) where
+module _ (list keys locations : List ℕ) (e : allOf isEntry list ≡ true) (k : keys ≡ map (entryKey Location) list)
+    (s : locations ≡ sortN keys) where
   sorted : locations ≡ sortN (map (entryKey Location) list)
   sorted = s ∙ ap sortN k
 
@@ -170,6 +172,7 @@ pub no-tile : (list : List ℕ) → length list ≤ maxEntries → false ≡ all
 unfolding listRefusal
 no-tile list h e = rw (le-ltb _ _ h, ← e)
 
-pub told : (list : List ℕ) (r : Bool) → length list ≤ maxEntries → true ≡ allOf isEntry list → r ≡ isSettled list → boolCase (Told r) ≡ isSettledOf list
+pub told : (list : List ℕ) (r : Bool) → length list ≤ maxEntries → true ≡ allOf isEntry list → r ≡ isSettled list
+    → boolCase (Told r) ≡ isSettledOf list
 unfolding listRefusal
 told list r h e f = rw (le-ltb _ _ h, ← e, f)

@@ -46,13 +46,15 @@ unfolding allOf
 rest-entries a l e = and-parts (isEntry a) (allOf isEntry l) e .1
 
 -- what the test says of the first entry, and of the others
-parts : (a : ℕ) (l : List ℕ) → strictlyInOrder (a ∷ l) ≡ true → ((n : ℕ) → List·Memᴰ n l → Before (entryTile a) (entryTile n)) × (strictlyInOrder l ≡ true)
+parts : (a : ℕ) (l : List ℕ) → strictlyInOrder (a ∷ l) ≡ true
+    → ((n : ℕ) → List·Memᴰ n l → Before (entryTile a) (entryTile n)) × (strictlyInOrder l ≡ true)
 unfolding strictlyInOrder
 parts a l e =
     let p = and-parts (allOf (λ b. isBefore (entryTile a) (entryTile b)) l) (strictlyInOrder l) e in
     (λ n m. is-before (entryTile a) (entryTile n) (all-in (λ b. isBefore (entryTile a) (entryTile b)) l (p .0) m), p .1)
 
-ranks-rise : (list : List ℕ) → allOf isEntry list ≡ true → strictlyInOrder list ≡ true → (i j : ℕ) → i < j → j < length list → rankAt list i < rankAt list j
+ranks-rise : (list : List ℕ) → allOf isEntry list ≡ true → strictlyInOrder list ≡ true → (i j : ℕ) → i < j → j < length list
+    → rankAt list i < rankAt list j
 ranks-rise [] e o i j h k = absurd (omega arith)
 ranks-rise (a ∷ l) e o i zero h k = absurd (omega arith)
 ranks-rise (a ∷ l) e o zero (suc j) h k =
@@ -60,7 +62,8 @@ ranks-rise (a ∷ l) e o zero (suc j) h k =
     rank-before _ _ (tile-at (a ∷ l) e 0 (omega arith)) (tile-at (a ∷ l) e (suc j) k) (parts a l o .0 _ m)
 ranks-rise (a ∷ l) e o (suc i) (suc j) h k = ranks-rise l (rest-entries a l e) (parts a l o .1) i j (omega arith) (omega arith)
 
-rise-ordered : (list : List ℕ) → allOf isEntry list ≡ true → ((i j : ℕ) → i < j → j < length list → rankAt list i < rankAt list j) → strictlyInOrder list ≡ true
+rise-ordered : (list : List ℕ) → allOf isEntry list ≡ true → ((i j : ℕ) → i < j → j < length list → rankAt list i < rankAt list j)
+    → strictlyInOrder list ≡ true
 unfolding strictlyInOrder
 rise-ordered [] e f = refl
 rise-ordered (a ∷ l) e f = rw (first, rise-ordered l (rest-entries a l e) (λ i j h k. f (suc i) (suc j) (omega arith) (omega arith)))
@@ -73,7 +76,8 @@ rise-ordered (a ∷ l) e f = rw (first, rise-ordered l (rest-entries a l e) (λ 
         (rw (s .2) at (f 0 (suc (s .0)) (omega arith) (omega (arith, s .1))))))
 
 -- the locations of tiles strictly in order are each of one tile, so that in their own order they rise
-pub locations-rise : (list : List ℕ) → allOf isEntry list ≡ true → strictlyInOrder list ≡ true → Rising (sortN (map (entryKey Location) list))
+pub locations-rise : (list : List ℕ) → allOf isEntry list ≡ true → strictlyInOrder list ≡ true
+    → Rising (sortN (map (entryKey Location) list))
 unfolding sortN Rising
 locations-rise [] e o = tt
 locations-rise (a ∷ l) e o =

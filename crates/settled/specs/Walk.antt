@@ -81,7 +81,8 @@ module _ (l : List ℕ) (numbers : TileNumbers locationOf l) (end i : ℕ) (L : 
         )
 
     pub loose-next : end ≤ getD l i 0 - w → ((p : Tile) → Family 0 (tiles l) i (tiles l i) p → ⊥) → Loose l (getD l i 0 + w) (i + 1)
-    loose-next k none = record { within = omega arith; rise = rise; ends = ends; source = λ g. (i, omega arith, omega (arith, location .again)); alone = alone }
+    loose-next k none = record
+        { within = omega arith; rise = rise; ends = ends; source = λ g. (i, omega arith, omega (arith, location .again)); alone = alone }
       where
         rise : (a b : ℕ) → a < b → b < i + 1 → endOf (tiles l a) ≤ startOf (tiles l b)
         rise a b g q = pick (decLt b i)
@@ -114,7 +115,8 @@ module _ (l : List ℕ) (numbers : TileNumbers locationOf l) (end i : ℕ) (L : 
       no-four p e =
           let all = whole-all (named locationTile l) p .0 e in
           let s =
-          together (tiles l) (length l) (λ a k. runs .each a k .of-map) (runs .rise) 0 p (omega arith) (named-among l _ (all 0 0 (omega arith) (omega arith)))
+          together (tiles l) (length l) (λ a k. runs .each a k .of-map) (runs .rise) 0 p (omega arith)
+          (named-among l _ (all 0 0 (omega arith) (omega arith)))
           (named-among l _ (all 1 0 (omega arith) (omega arith))) (named-among l _ (all 0 1 (omega arith) (omega arith)))
           (named-among l _ (all 1 1 (omega arith) (omega arith))) in
           L .alone (s .0) (omega (arith, s .1)) p (s .2)

@@ -95,9 +95,9 @@ pub fn is_settled(list: &[u64]) -> BoolAnswer
     run(list, 2)
 }
 
-// The memory for the locations, and to sort them, is of the call's own and has to be cleared, so it is not much longer than the list: one size for
-// short lists, and `longer` ones. Each stands in a function of its own. The compiler joins such a function to its caller, but not to a
-// caller that calls itself: so a short list does not pay for the stack of a long one.
+// The memory for the locations, and to sort them, is of the call's own and has to be cleared, so it is not much longer than the list:
+// one size for short lists, and `longer` ones. Each stands in a function of its own. The compiler joins such a function to its caller,
+// but not to a caller that calls itself: so a short list does not pay for the stack of a long one.
 fn run(list: &[u64], longer: u8) -> BoolAnswer
     ensures { λ r. ⌜ boolCase r ≡ isSettledOf (now (list .entry)) ⌝ }
 {

@@ -58,7 +58,8 @@ exactly-the-others-of-the-family x y z t = (λ m. first (List·Memᴰ·cases-con
 
     later : (t ≡ tileAt x (other y) z) ⊎ List·Memᴰ t (tileAt (other x) (other y) z ∷ []) → Sibling x y z t
     later (inl e) = let n = named e in record { zoom = n .2; parent = omega arith; another = λ p q. omega arith }
-    later (inr m) = let n = named (List·Memᴰ·eq-of-singleton m) in record { zoom = n .2; parent = omega arith; another = λ p q. omega arith }
+    later (inr m) = let n = named (List·Memᴰ·eq-of-singleton m) in
+        record { zoom = n .2; parent = omega arith; another = λ p q. omega arith }
 
     first : (t ≡ tileAt (other x) y z) ⊎ List·Memᴰ t (tileAt x (other y) z ∷ tileAt (other x) (other y) z ∷ []) → Sibling x y z t
     first (inl e) = let n = named e in record { zoom = n .2; parent = omega arith; another = λ p q. omega arith }

@@ -67,7 +67,8 @@ pub accepted-on-map : (x y z : ℕ) → tileRefusal x y z ≡ 0 → OnMap x y z
 unfolding tileRefusal
 accepted-on-map x y z e = pick (ltb maxZoom z) refl (leb (2 ^ z) x) refl (leb (2 ^ z) y) refl e
   where
-    pick : (a : Bool) → ltb maxZoom z ≡ a → (b : Bool) → leb (2 ^ z) x ≡ b → (c : Bool) → leb (2 ^ z) y ≡ c → (1 when a else 2 when (b || c)) ≡ 0 → OnMap x y z
+    pick : (a : Bool) → ltb maxZoom z ≡ a → (b : Bool) → leb (2 ^ z) x ≡ b → (c : Bool) → leb (2 ^ z) y ≡ c
+        → (1 when a else 2 when (b || c)) ≡ 0 → OnMap x y z
     pick true p b q c r e = absurd (omega arith)
     pick false p true q c r e = absurd (omega arith)
     pick false p false q true r e = absurd (omega arith)
@@ -81,7 +82,8 @@ side-is {z} h = pow-within z 32 (omega (arith, maxZoom-small))
 pub side-found : {r : U32Answer} {end : ℕ} (x y z : ℕ) → u32Case r ≡ sideOf x y z → r ≡ Number end → OnMap x y z × (end ≡ 2 ^ z)
 side-found x y z e p = let f = answer-found (tileRefusal x y z) 0 (2 ^ z) _ (sym (ap u32Case p) ∙ e) in (accepted-on-map x y z (f .0), f .1)
 
-pub side-refused : {r : U32Answer} {why : Refusal} (x y z : ℕ) → u32Case r ≡ sideOf x y z → r ≡ Refuse why → numberOf why ≡ tileRefusal x y z
+pub side-refused : {r : U32Answer} {why : Refusal} (x y z : ℕ) → u32Case r ≡ sideOf x y z → r ≡ Refuse why
+    → numberOf why ≡ tileRefusal x y z
 side-refused {why = why} x y z e p = sym (answer-refused why (tileRefusal x y z) 0 (2 ^ z) (sym (ap u32Case p) ∙ e))
 
 -- every zoom has a column 0 and a row 0

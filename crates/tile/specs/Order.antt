@@ -79,7 +79,8 @@ before-if-less s t e = pick (one-before s t)
   where
     pick : Before s t ⊎ ((s ≡ t) ⊎ Before t s) → Before s t
     pick (inl b) = b
-    pick (inr (inl f)) = let g : tileOrder s s ≡ Less = ap (tileOrder s) f ∙ e in let z : _≡_ {A = ℕ} 0 1 = cc (equal-if-same s) in absurd (omega arith)
+    pick (inr (inl f)) = let g : tileOrder s s ≡ Less = ap (tileOrder s) f ∙ e in let z : _≡_ {A = ℕ} 0 1 = cc (equal-if-same s) in
+        absurd (omega arith)
     pick (inr (inr b)) = let z : _≡_ {A = ℕ} 0 1 = cc (greater-if-after b) in absurd (omega arith)
 
 pub same-if-equal : (s t : Tile) → tileOrder s t ≡ Equal → s ≡ t

@@ -57,7 +57,8 @@ accepted-step : (a b : Step) (t : Tile) → stepOf a b t .number ≡ 0
     → OnMap (t .x) (t .y) (t .z) × (leaves a (t .x) (2 ^ t .z) ≡ false) × (leaves b (t .y) (2 ^ t .z) ≡ false)
 accepted-step a b t e = pick (tileRefusal (t .x) (t .y) (t .z)) refl (leaves a (t .x) (2 ^ t .z)) refl (leaves b (t .y) (2 ^ t .z)) refl e
   where
-    pick : (n : ℕ) → tileRefusal (t .x) (t .y) (t .z) ≡ n → (p : Bool) → leaves a (t .x) (2 ^ t .z) ≡ p → (q : Bool) → leaves b (t .y) (2 ^ t .z) ≡ q
+    pick : (n : ℕ) → tileRefusal (t .x) (t .y) (t .z) ≡ n → (p : Bool) → leaves a (t .x) (2 ^ t .z) ≡ p → (q : Bool)
+        → leaves b (t .y) (2 ^ t .z) ≡ q
         → answer (n else 2 when (p || q)) noTile (tileAt (stepped a (t .x)) (stepped b (t .y)) (t .z)) .number ≡ 0
         → OnMap (t .x) (t .y) (t .z) × (leaves a (t .x) (2 ^ t .z) ≡ false) × (leaves b (t .y) (2 ^ t .z) ≡ false)
     pick zero i false j false k e = (accepted-on-map (t .x) (t .y) (t .z) i, j, k)
@@ -78,8 +79,11 @@ pub a-step-stays-on-the-map : (a b : Step) (t : Tile) → stepOf a b t .number �
 a-step-stays-on-the-map a b t e =
     let k = accepted-step a b t e in
     let u = taken-back a (t .x) (2 ^ t .z) (k .0 .column) (k .1) in
-    let v = taken-back b (t .y) (2 ^ t .z) (k .0 .row) (k .2) in
-    (tileAt (stepped a (t .x)) (stepped b (t .y)) (t .z), step-taken a b t (k .0) (k .1) (k .2), record { zoom = k .0 .zoom; column = u .0; row = v .0 })
+    let v = taken-back b (t .y) (2 ^ t .z) (k .0 .row) (k .2) in (
+      tileAt (stepped a (t .x)) (stepped b (t .y)) (t .z),
+      step-taken a b t (k .0) (k .1) (k .2),
+      record { zoom = k .0 .zoom; column = u .0; row = v .0 },
+    )
 
 -- and the opposite step leads back: `down` undoes `up`, `right` undoes `left`, and so on
 pub a-step-and-back : (a b : Step) (t : Tile) → stepOf a b t .number ≡ 0

@@ -107,7 +107,8 @@ module _ (by : Key) (keys ranked sorted once : List ℕ) (r : ℕ) (h : TileNumb
 
   pub front-entries : (part rest : List ℕ) → part ≡ map rankEntry (take r once)
       → (r ≤ length (part ++ rest)) × (take r (part ++ rest) ≡ finished (map (sortTile by) keys))
-  front-entries part rest g = (rw (length-append part rest) (omega (arith, size)), take-at part rest r size ∙ (g ∙ ap (map rankEntry) front))
+  front-entries part rest g =
+      (rw (length-append part rest) (omega (arith, size)), take-at part rest r size ∙ (g ∙ ap (map rankEntry) front))
     where
       size : length part ≡ r
       size = ap length g ∙ (length-map (take r once) rankEntry ∙ length-take-le r once (o .within))
@@ -136,7 +137,8 @@ finish-listed by keys part memory r rest h k e f = record {
         ∙ rw (length-take-le r (part ++ rest) g, length-replicate {A = ℕ} (length (part ++ rest) - r) 0) (omega arith))
 
 -- the answer stands in the part of the memory that was asked for
-pub listed-filled : {S : Tile → Bool} {after : List ℕ} {count : ℕ} (places : ℕ) (memory : List ℕ) → Listed S after count → length after ≡ places
+pub listed-filled : {S : Tile → Bool} {after : List ℕ} {count : ℕ} (places : ℕ) (memory : List ℕ) → Listed S after count
+    → length after ≡ places
     → after ++ drop places memory ≡ filled places (entriesInOrder S) memory
 listed-filled {S} {after} {count} places memory l e =
     ap (λ (k : List ℕ). k ++ drop places memory) (l .left ∙ ap (λ (n : ℕ). entriesInOrder S ++ replicate n 0) room)

@@ -63,7 +63,8 @@ pub entry-map : (list : List ℕ) → allOf isEntry list ≡ true → (n : ℕ) 
 entry-map list e n m = accepted-entry n (eqb-true _ _ (all-in isEntry list e m))
 
 pub listed-within : (list : List ℕ) → allOf isEntry list ≡ true → Within maxZoom (listed list)
-listed-within list e t h = let s = named-by entryTile list t h in rw (← s .2) (valid-tile (entryTile (s .0)) (entry-map list e (s .0) (s .1)))
+listed-within list e t h = let s = named-by entryTile list t h in
+    rw (← s .2) (valid-tile (entryTile (s .0)) (entry-map list e (s .0) (s .1)))
 
 -- lists that name the same tiles are one set
 pub same-named : (f g : ℕ → Tile) (a b : List ℕ) → ((n : ℕ) → List·Memᴰ n a → (k : ℕ) × List·Memᴰ k b × (g k ≡ f n))

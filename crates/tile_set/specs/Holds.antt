@@ -59,12 +59,18 @@ pub holder-is-ancestor : {s t : Tile} → Holds s t → s ≡ ancestor t (s .z)
 holder-is-ancestor {s} {t} h = tile-ext s (ancestor t (s .z)) (sym (h .inx)) (sym (h .iny)) refl
 
 pub child-held : (p : Tile) (i j : ℕ) → i < 2 → j < 2 → Holds p (child p i j)
-child-held p i j a b = let e : suc (p .z) - p .z ≡ 1 = omega arith in record { above = omega arith; inx = rw e (omega arith); iny = rw e (omega arith) }
+child-held p i j a b = let e : suc (p .z) - p .z ≡ 1 = omega arith in
+    record { above = omega arith; inx = rw e (omega arith); iny = rw e (omega arith) }
 
 -- what lies under a tile lies under one of its children
 pub cut : {p t : Tile} → Holds p t → p .z < t .z → (i : ℕ) × (j : ℕ) × (i < 2) × (j < 2) × Holds (child p i j) t
-cut {p} {t} h l =
-    (digit (t .x), digit (t .y), omega arith, omega arith, record { above = l; inx = part (t .x) (p .x) (h .inx); iny = part (t .y) (p .y) (h .iny) })
+cut {p} {t} h l = (
+  digit (t .x),
+  digit (t .y),
+  omega arith,
+  omega arith,
+  record { above = l; inx = part (t .x) (p .x) (h .inx); iny = part (t .y) (p .y) (h .iny) },
+)
   where
     digit : ℕ → ℕ
     digit n = n / 2 ^ (t .z - suc (p .z)) % 2
@@ -89,7 +95,8 @@ by-quarter P a b c d (suc (suc i)) j h k = absurd (omega arith)
 pub held-by-four : (P : Tile → Type 0) (p : Tile) → (P (child p 0 0) → P (child p 0 1) → P (child p 1 0) → P (child p 1 1) → ⊥)
     → ((i j : ℕ) → i < 2 → j < 2 → (r : Tile) × P r × Holds r (child p i j)) → (r : Tile) × P r × Holds r p
 held-by-four P p none held =
-    four (up 0 0 (omega arith) (omega arith)) (up 0 1 (omega arith) (omega arith)) (up 1 0 (omega arith) (omega arith)) (up 1 1 (omega arith) (omega arith))
+    four (up 0 0 (omega arith) (omega arith)) (up 0 1 (omega arith) (omega arith)) (up 1 0 (omega arith) (omega arith))
+    (up 1 1 (omega arith) (omega arith))
   where
     Held : Type 0
     Held = (r : Tile) × P r × Holds r p

@@ -8,7 +8,8 @@ use native.Mathlib.Omega.{arith}
 use lib.Dec.{leb, ltb}
 use borrow.Author.Tests.{leb-true, le-leb, ltb-true, lt-ltb, not-true}
 use Rattle.tile.specs.declared.Tile.{Tile}
-use Rattle.tile_set.specs.Holds.{Holds, holds-refl, holds-trans, holds-level, child-held, cut, parent-holds, parent-of-child, Valid, valid-holder}
+use Rattle.tile_set.specs.Holds.{Holds, holds-refl, holds-trans, holds-level, child-held, cut, parent-holds, parent-of-child, Valid}
+use Rattle.tile_set.specs.Holds.{valid-holder}
 use Rattle.tile_set.specs.Set.{parentTile, child, whole, joins, joined, merged, passes}
 
 -- a set of tiles of the map
@@ -59,7 +60,12 @@ whole-all S p = (each, all)
     each e (suc (suc i)) j a b = absurd (omega arith)
 
     all : ((i j : ℕ) → i < 2 → j < 2 → S (child p i j) ≡ true) → whole S p ≡ true
-    all f = rw (f 0 0 (omega arith) (omega arith), f 0 1 (omega arith) (omega arith), f 1 0 (omega arith) (omega arith), f 1 1 (omega arith) (omega arith))
+    all f = rw (
+      f 0 0 (omega arith) (omega arith),
+      f 0 1 (omega arith) (omega arith),
+      f 1 0 (omega arith) (omega arith),
+      f 1 1 (omega arith) (omega arith),
+    )
 
 module _ (m : ℕ) (S : Tile → Bool) where
   pub joins-when : (t : Tile) → (joins m S t ≡ true) ↔ ((m < t .z) × (whole S (parentTile t) ≡ true))

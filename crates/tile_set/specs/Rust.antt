@@ -1,6 +1,7 @@
--- The Rust's `merge`, `simplify_v1` and `simplify` (merge.rs) as functions on values. A hash set is a test of tiles. A loop over a hash set or
--- a hash map, whose order is not fixed, walks a list, and `RustTheorems` speaks of every list that the loop can follow. Columns and rows
--- have 32 bits and zooms 8: `parent` halves and takes 1, which leaves them at zoom 0 alone; `children1` is computed in them.
+-- The Rust's `merge`, `simplify_v1` and `simplify` (merge.rs) as functions on values. A hash set is a test of tiles. A loop over a
+-- hash set or a hash map, whose order is not fixed, walks a list, and `RustTheorems` speaks of every list that the loop can follow.
+-- Columns and rows have 32 bits and zooms 8: `parent` halves and takes 1, which leaves them at zoom 0 alone; `children1` is computed
+-- in them.
 use mathlib.Core.Path.{_≡_}
 use mathlib.Core.Logic.{_↔_}
 use mathlib.Core.Bool.{Bool, true, false, cond, not, _&&_, _||_}

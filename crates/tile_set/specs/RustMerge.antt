@@ -57,7 +57,8 @@ module _ (m : ℕ) (S : Tile → Bool) where
 
       here : (u : Tile) → u ≡ t → List·Memᴰ u (group (parentTile u) (sameTile (parentTile u) (parentTile t)))
       here u e =
-          let k : sameTile (parentTile u) (parentTile t) ≡ true = ap (λ (v : Tile). sameTile (parentTile v) (parentTile t)) e ∙ tile-same (parentTile t) in
+          let k : sameTile (parentTile u) (parentTile t) ≡ true =
+          ap (λ (v : Tile). sameTile (parentTile v) (parentTile t)) e ∙ tile-same (parentTile t) in
           rw k (List·Memᴰ·head e)
 
       grown-once : (p : Tile) (b : Bool) → Once (group p b)
@@ -151,7 +152,8 @@ module _ (m : ℕ) (S : Tile → Bool) where
             put-back : (t : Tile) → List·Memᴰ t (f .upwards p) → merged m S t ≡ true
             put-back t i =
                 let g = filed .grouped p t i in
-                merged-kept m S t (g .0) (is-false (joins m S t) (λ k. true≢false (sym (joins-joined m S t k) ∙ (ap (joined m S) (g .2) ∙ e))))
+                merged-kept m S t (g .0)
+                (is-false (joins m S t) (λ k. true≢false (sym (joins-joined m S t k) ∙ (ap (joined m S) (g .2) ∙ e))))
 
             other : (q : Tile) → joined m S q ≡ true → q ≡ p → ⊥
             other q k a = true≢false (sym k ∙ (ap (joined m S) a ∙ e))
@@ -169,7 +171,8 @@ module _ (m : ℕ) (S : Tile → Bool) where
         rest-once = w .once;
       })
 
-  pub group-of : (tiles : List Tile) → Walk S tiles → (p t : Tile) → List·Memᴰ t (rustFiled m tiles .upwards p) → (S t ≡ true) × (parentTile t ≡ p)
+  pub group-of : (tiles : List Tile) → Walk S tiles → (p t : Tile) → List·Memᴰ t (rustFiled m tiles .upwards p)
+      → (S t ≡ true) × (parentTile t ≡ p)
   group-of tiles w p t i = let g = filed-all tiles w .grouped p t i in (g .0, g .2)
 
   module _ (tiles supertiles : List Tile) (walk : Walk S tiles) (keys : Keys m tiles supertiles) where
@@ -178,8 +181,10 @@ module _ (m : ℕ) (S : Tile → Bool) where
     joined-all =
         let f = rustFiled m tiles in
         let h = filed-all tiles walk in
-        loop-keeps Joining (mergeGroup m (f .upwards)) (group-keeps f h) (record { current = f .current; changed = false }) supertiles (record {
-          sound = λ t e. let k = h .low-of t e in merged-kept m S t (k .0) (is-false (joins m S t) (λ j. omega (arith, k .1, joins-when m S t .0 j .0)));
+        loop-keeps Joining (mergeGroup m (f .upwards)) (group-keeps f h) (record { current = f .current; changed = false }) supertiles
+        (record {
+          sound = λ t e. let k = h .low-of t e in
+              merged-kept m S t (k .0) (is-false (joins m S t) (λ j. omega (arith, k .1, joins-when m S t .0 j .0)));
           low = λ t e l. at-end (h .low t e l);
           kept = λ t e l n. inr (keys (parentTile t) .1 (t, in-group f h t e l));
           made = λ p k. inr (group-met p k);
@@ -188,7 +193,8 @@ module _ (m : ℕ) (S : Tile → Bool) where
         })
       where
         group-met : (p : Tile) → joined m S p ≡ true → List·Memᴰ p supertiles
-        group-met p k = keys p .1 (child p 0 0, child-in-group (rustFiled m tiles) (filed-all tiles walk) p k 0 0 (omega arith) (omega arith))
+        group-met p k = keys p .1
+            (child p 0 0, child-in-group (rustFiled m tiles) (filed-all tiles walk) p k 0 0 (omega arith) (omega arith))
 
     pub rust-merged : (t : Tile) → rustMerge m tiles supertiles .current t ≡ merged m S t
     rust-merged t =

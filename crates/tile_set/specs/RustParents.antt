@@ -36,7 +36,8 @@ steps-up t zero (suc s) h l =
     has-parent (ancestor t (suc s)) (omega arith) ∙ ap some (one-up t s h ∙ ap (ancestor t) e)
 steps-up t (suc i) (suc s) h l =
     let e : s - 1 - i ≡ suc s - 1 - suc i = omega arith in
-    rw (ne-eqb (suc s) 0 (λ z. omega arith), one-up t s h) (steps-up t i s (omega arith) (omega arith) ∙ ap (λ (n : ℕ). some (ancestor t n)) e)
+    rw (ne-eqb (suc s) 0 (λ z. omega arith), one-up t s h)
+    (steps-up t i s (omega arith) (omega arith) ∙ ap (λ (n : ℕ). some (ancestor t n)) e)
 
 -- `parent` of i extra steps, fewer than the tile's zoom, is the ancestor of zoom z - 1 - i
 pub parent-is : (t : Tile) (i : ℕ) → i < t .z → parent t i ≡ some (ancestor t (t .z - 1 - i))
@@ -46,7 +47,8 @@ above : (t : Tile) (n calls : ℕ) → suc n ≤ t .z
     → parentsFrom (suc calls) (parent (ancestor t (suc n)) 0) ≡ ancestor t n ∷ parentsFrom calls (parent (ancestor t n) 0)
 unfolding parentsFrom
 above t n calls h =
-    ap (parentsFrom (suc calls)) (has-parent (ancestor t (suc n)) (omega arith)) ∙ ap (λ (p : Tile). p ∷ parentsFrom calls (parent p 0)) (one-up t n h)
+    ap (parentsFrom (suc calls)) (has-parent (ancestor t (suc n)) (omega arith))
+    ∙ ap (λ (p : Tile). p ∷ parentsFrom calls (parent p 0)) (one-up t n h)
 
 parents-from : (t : Tile) (n calls : ℕ) → n ≤ t .z → n ≤ calls → parentsFrom calls (parent (ancestor t n) 0) ≡ ancestorsFrom t n
 unfolding parent parentsFrom ancestorsFrom

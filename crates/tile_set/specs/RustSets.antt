@@ -81,10 +81,12 @@ extend-in (a ∷ l) S t i =
 pub extend-cases : (l : List Tile) (S : Tile → Bool) (t : Tile) → extend l S t ≡ true → List·Memᴰ t l ⊎ (S t ≡ true)
 extend-cases [] S t e = inr e
 extend-cases (a ∷ l) S t e =
-    ⊎-elim (λ i. inl (List·Memᴰ·tail i)) (λ k. ⊎-elim (λ s. inl (List·Memᴰ·head s)) inr (insert-cases a S t k)) (extend-cases l (insert a S) t e)
+    ⊎-elim (λ i. inl (List·Memᴰ·tail i)) (λ k. ⊎-elim (λ s. inl (List·Memᴰ·head s)) inr (insert-cases a S t k))
+    (extend-cases l (insert a S) t e)
 
 -- what each turn of a loop keeps, as it speaks of the tiles still to come, holds at the end, where none is to come
-pub loop-keeps : {A : Type 0} (P : A → List Tile → Type 0) (f : A → Tile → A) → ((s : A) (t : Tile) (rest : List Tile) → P s (t ∷ rest) → P (f s t) rest)
+pub loop-keeps : {A : Type 0} (P : A → List Tile → Type 0) (f : A → Tile → A)
+    → ((s : A) (t : Tile) (rest : List Tile) → P s (t ∷ rest) → P (f s t) rest)
     → (s : A) (tiles : List Tile) → P s tiles → P (foldl f s tiles) []
 loop-keeps P f step s [] h = h
 loop-keeps P f step s (t ∷ rest) h = loop-keeps P f step (f s t) rest (step s t rest h)
@@ -125,7 +127,8 @@ without a (b ∷ l) i = pick (List·Memᴰ·cases-cons i) (without a l)
     pick (inr k) g = let w = g k in record {
       others = b ∷ w .others;
       shorter = ap suc (w .shorter);
-      all = λ t j. ⊎-elim (λ s. inr (List·Memᴰ·head s)) (λ h. ⊎-elim inl (λ o. inr (List·Memᴰ·tail o)) (w .all t h)) (List·Memᴰ·cases-cons j);
+      all = λ t j. ⊎-elim (λ s. inr (List·Memᴰ·head s)) (λ h. ⊎-elim inl (λ o. inr (List·Memᴰ·tail o)) (w .all t h))
+          (List·Memᴰ·cases-cons j);
     }
 
 -- a list that has each of its tiles once is no longer than another that has them all

@@ -9,12 +9,15 @@ use native.Mathlib.Omega.{arith}
 use lib.Dec.{ltb}
 use borrow.Author.Tests.{ltb-true, ltb-false}
 use Rattle.tile.specs.declared.Tile.{Tile}
-use Rattle.tile_set.specs.Holds.{Holds, holds-refl, holds-trans, holds-level, child-held, ancestor-holds, holder-is-ancestor, Valid, valid-holder}
-use Rattle.tile_set.specs.Merged.{Within, Apart, or-cases, is-false, bool-ext, whole-all, joins-when, joined-when, joined-four, joined-joins}
+use Rattle.tile_set.specs.Holds.{Holds, holds-refl, holds-trans, holds-level, child-held, ancestor-holds, holder-is-ancestor, Valid}
+use Rattle.tile_set.specs.Holds.{valid-holder}
+use Rattle.tile_set.specs.Merged.{Within, Apart, or-cases, is-false, bool-ext, whole-all, joins-when, joined-when, joined-four}
+use Rattle.tile_set.specs.Merged.{joined-joins}
 use Rattle.tile_set.specs.Merged.{merged-cases, merged-kept, merged-joined, merged-covers, merged-apart}
 use Rattle.tile_set.specs.Rust.{empty, insert, removeAll, containsAll, attemptMerge, put, rustSimplify, ByZoom, Walk}
 use Rattle.tile_set.specs.RustParents.{ancestorsFrom, parents-are, any-ancestor}
-use Rattle.tile_set.specs.RustSets.{insert-cases, insert-here, insert-old, remove-all-of, remove-all-in, loop-keeps, after-turn, at-end}
+use Rattle.tile_set.specs.RustSets.{insert-cases, insert-here, insert-old, remove-all-of, remove-all-in, loop-keeps, after-turn}
+use Rattle.tile_set.specs.RustSets.{at-end}
 use Rattle.tile_set.specs.RustSets.{same-zoom, fourOf, children1-are-four, contains-four, each-of-four, child-in-four}
 use Rattle.tile_set.specs.Set.{anyBelow, ancestor, parentTile, child, whole, joins, joined, merged}
 use Rattle.tile_set.specs.Simplified.{Built, listed, Simplest, merged-built}
@@ -121,7 +124,8 @@ module _ (m : ℕ) (S : Tile → Bool) (small : Within 29 S) where
     apart = merged-apart m C (h .apart);
     families = families;
     order = λ r u e i. ⊎-elim (λ k. h .order r u (k .0) i)
-        (λ k. let l = h .order (child r 0 0) u (joined-four m C r k 0 0 (omega arith) (omega arith)) i in omega arith) (merged-cases m C r e);
+        (λ k. let l = h .order (child r 0 0) u (joined-four m C r k 0 0 (omega arith) (omega arith)) i in omega arith)
+        (merged-cases m C r e);
     rest-of = h .rest-of;
     by-zoom = h .by-zoom;
   }
@@ -157,7 +161,8 @@ module _ (m : ℕ) (S : Tile → Bool) (small : Within 29 S) where
       attempted : List Tile → Type 0
       attempted four =
           let p = ancestor t s in
-          Covering none-pending (cond (ltb s m) C (cond (containsAll C four) (attemptMerge m (ancestorsFrom t s) (insert p (removeAll four C))) C)) rest
+          Covering none-pending
+          (cond (ltb s m) C (cond (containsAll C four) (attemptMerge m (ancestorsFrom t s) (insert p (removeAll four C))) C)) rest
 
       only : (q : Tile) → m ≤ q .z → whole C q ≡ true → q ≡ ancestor t s
       only q a w =
@@ -173,13 +178,15 @@ module _ (m : ℕ) (S : Tile → Bool) (small : Within 29 S) where
           → Covering none-pending (cond b C (cond c (attemptMerge m (ancestorsFrom t s) next) C)) rest
       pick true e c k g = settled (next-pending t (suc s)) h (λ p a w o. omega (arith, o .0, ltb-true s m e))
       pick false e true k g =
-          g (subst (λ (R : Tile → Bool). Covering (next-pending t s) R rest) (sym (one-family-merged m (ancestor t s) C (ltb-false s m e) k only))
+          g (subst (λ (R : Tile → Bool). Covering (next-pending t s) R rest)
+          (sym (one-family-merged m (ancestor t s) C (ltb-false s m e) k only))
           (merged-covering t s C rest h))
       pick false e false k g =
           settled (next-pending t (suc s)) h (λ p a w o. true≢false (sym w ∙ (ap (whole C) (only p a w) ∙ k)))
 
   -- a tile that is held already
-  held-keeps : (C : Tile → Bool) (t : Tile) (rest : List Tile) → Covering none-pending C (t ∷ rest) → Held C t → Covering none-pending C rest
+  held-keeps : (C : Tile → Bool) (t : Tile) (rest : List Tile) → Covering none-pending C (t ∷ rest) → Held C t
+      → Covering none-pending C rest
   held-keeps C t rest h held = record {
     built = h .built;
     covers = λ s e. after-turn (λ r. r) (λ q. (held .0, held .1, rw q (held .2))) (h .covers s e);
@@ -191,14 +198,16 @@ module _ (m : ℕ) (S : Tile → Bool) (small : Within 29 S) where
   }
 
   -- a tile that no tile of the coverage holds, and that holds none of them, since their zooms are no deeper
-  insert-keeps : (C : Tile → Bool) (t : Tile) (rest : List Tile) → Covering none-pending C (t ∷ rest) → ((r : Tile) → C r ≡ true → Holds r t → ⊥)
+  insert-keeps : (C : Tile → Bool) (t : Tile) (rest : List Tile) → Covering none-pending C (t ∷ rest)
+      → ((r : Tile) → C r ≡ true → Holds r t → ⊥)
       → Covering (next-pending t (t .z)) (insert t C) rest
   insert-keeps C t rest h free = record {
     built = λ u e. ⊎-elim (λ q. listed (ap S q ∙ h .rest-of t (List·Memᴰ·head refl))) (h .built u) (insert-cases t C u e);
     covers = λ s e. after-turn (λ (r, c, g). (r, insert-old t C r c, g)) (λ q. (s, insert-here t C s q, holds-refl s)) (h .covers s e);
     apart = λ a b e f g. apart a b g (insert-cases t C a e) (insert-cases t C b f);
     families = families;
-    order = λ r u e i. ⊎-elim (λ q. omega (arith, same-zoom q, h .by-zoom .0 u i)) (λ c. h .order r u c (List·Memᴰ·tail i)) (insert-cases t C r e);
+    order = λ r u e i. ⊎-elim (λ q. omega (arith, same-zoom q, h .by-zoom .0 u i)) (λ c. h .order r u c (List·Memᴰ·tail i))
+        (insert-cases t C r e);
     rest-of = λ u i. h .rest-of u (List·Memᴰ·tail i);
     by-zoom = h .by-zoom .1;
   }
@@ -229,7 +238,8 @@ module _ (m : ℕ) (S : Tile → Bool) (small : Within 29 S) where
       held e = ⊎-elim (λ k. (t, k, holds-refl t)) above (or-cases (C t) (anyBelow (t .z) (λ s. C (ancestor t s))) e)
         where
           above : anyBelow (t .z) (λ s. C (ancestor t s)) ≡ true → Held C t
-          above k = let i = any-below-of (t .z) (λ s. C (ancestor t s)) k in (ancestor t (i .0), i .2, ancestor-holds t (i .0) (omega (arith, i .1)))
+          above k = let i = any-below-of (t .z) (λ s. C (ancestor t s)) k in
+              (ancestor t (i .0), i .2, ancestor-holds t (i .0) (omega (arith, i .1)))
 
       holder-found : (r : Tile) → C r ≡ true → Holds r t → covered ≡ true
       holder-found r c g = found (decLt (r .z) (t .z))

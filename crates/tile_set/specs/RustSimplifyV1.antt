@@ -10,7 +10,8 @@ use borrow.Author.Tests.{leb-true, le-leb}
 use Rattle.tile.specs.declared.Tile.{Tile}
 use Rattle.tile_set.specs.Holds.{Holds, holds-trans, ancestor-holds, holder-is-ancestor}
 use Rattle.tile_set.specs.Merged.{Within, is-false, bool-ext, merged-same, merged-within}
-use Rattle.tile_set.specs.Rust.{empty, insert, parent, Merging, rustMerge, holdsSome, keepRoot, rustRoots, Orders, rustWhile, ByZoom, Walk, Fair}
+use Rattle.tile_set.specs.Rust.{empty, insert, parent, Merging, rustMerge, holdsSome, keepRoot, rustRoots, Orders, rustWhile}
+use Rattle.tile_set.specs.Rust.{ByZoom, Walk, Fair}
 use Rattle.tile_set.specs.RustMerge.{rust-merged, rust-changed}
 use Rattle.tile_set.specs.RustParents.{parent-is}
 use Rattle.tile_set.specs.RustSets.{insert-cases, insert-here, insert-old, loop-keeps, after-turn, at-end, same-zoom}
@@ -31,7 +32,8 @@ module _ (m : ℕ) (S : Tile → Bool) where
     order : ByZoom rest
 
   root-keeps : (roots : Tile → Bool) (t : Tile) (rest : List Tile) → Rooting roots (t ∷ rest) → Rooting (keepRoot m roots t) rest
-  root-keeps roots t rest h = rw (any-below-same (t .z) asked found (λ i l. rw (parent-is t i l))) (pick (leb (t .z) m) refl (anyBelow (t .z) found) refl)
+  root-keeps roots t rest h =
+      rw (any-below-same (t .z) asked found (λ i l. rw (parent-is t i l))) (pick (leb (t .z) m) refl (anyBelow (t .z) found) refl)
     where
       asked : ℕ → Bool
       asked i = leb m i && holdsSome roots (parent t i)
@@ -92,7 +94,8 @@ module _ (m : ℕ) (S : Tile → Bool) where
           let u = ancestor t (t .z - 1 - i .0) in
           uncovered-of m S t k .1 (u .z) (omega (arith, i .1)) (uncovered-of m S u (h .sound u (f .1)) .0)
 
-      pick : (b : Bool) → leb (t .z) m ≡ b → (c : Bool) → anyBelow (t .z) found ≡ c → Rooting (cond b (insert t roots) (cond c roots (insert t roots))) rest
+      pick : (b : Bool) → leb (t .z) m ≡ b → (c : Bool) → anyBelow (t .z) found ≡ c
+          → Rooting (cond b (insert t roots) (cond c roots (insert t roots))) rest
       pick true e c k = in-roots (shallow (leb-true _ _ e))
       pick false e true k = left-out (under-root k)
       pick false e false k = in-roots (bare k)
@@ -141,7 +144,8 @@ module _ (D m : ℕ) (o : Orders) (fair : Fair D m o) where
       none e t = is-false (joins m S t) (λ k. true≢false (sym (changes .1 (t, k)) ∙ e))
 
       pick : (b : Bool) → rustMerge m (o .tiles n S) (o .supertiles n S) .changed ≡ b
-          → Ends (cond b (rustWhile n m o (rustMerge m (o .tiles n S) (o .supertiles n S) .current)) (rustMerge m (o .tiles n S) (o .supertiles n S))) R
+          → Ends (cond b (rustWhile n m o (rustMerge m (o .tiles n S) (o .supertiles n S) .current))
+          (rustMerge m (o .tiles n S) (o .supertiles n S))) R
       pick true e = rw merges (go (changes .0 e))
       pick false e = (merges ∙ (fun-ext (merged-same m S (none e)) ∙ stop (none e)), e)
 

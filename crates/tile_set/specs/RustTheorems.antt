@@ -61,8 +61,10 @@ ordered-by-zoom (a ∷ l) o = (λ t i. before-zoom (o .0 t i), ordered-by-zoom l
 
 pub in-order-walk : {D : ℕ} (S : Tile → Bool) → Within D S → Walk S (inOrder D S) × ByZoom (inOrder D S)
 in-order-walk {D} S w =
-    let o = in-order-ordered D S in
-    (record { just = λ t. (λ i. in-order-of D S i .1, λ e. in-order-in D S (w t e) e); once = ordered-once (inOrder D S) o }, ordered-by-zoom (inOrder D S) o)
+    let o = in-order-ordered D S in (
+      record { just = λ t. (λ i. in-order-of D S i .1, λ e. in-order-in D S (w t e) e); once = ordered-once (inOrder D S) o },
+      ordered-by-zoom (inOrder D S) o,
+    )
 
 -- the tiles that have a group
 abbrev met : ℕ → List Tile → Tile → Bool

@@ -15,7 +15,8 @@ use Rattle.tile_set.specs.Uncovered.{uncovered-of, uncovered-covers, unc
 -- a tile that joining can make of the tiles of S
 pub data Built (m : ℕ) (S : Tile → Bool) : Tile → Type 0 where
   listed : {t : Tile} → S t ≡ true → Built m S t
-  joined : {p : Tile} → m ≤ p .z → Built m S (child p 0 0) → Built m S (child p 0 1) → Built m S (child p 1 0) → Built m S (child p 1 1) → Built m S p
+  joined : {p : Tile} → m ≤ p .z → Built m S (child p 0 0) → Built m S (child p 0 1) → Built m S (child p 1 0) → Built m S (child p 1 1)
+      → Built m S p
 
 -- R is S simplified at minimum zoom m
 pub record Simplest (m : ℕ) (S R : Tile → Bool) : Type 0 where
@@ -24,7 +25,8 @@ pub record Simplest (m : ℕ) (S R : Tile → Bool) : Type 0 where
   pub apart : Apart R
   pub no-four : (p : Tile) → m ≤ p .z → whole R p ≡ true → ⊥
 
-pub merged-built : {m : ℕ} {S : Tile → Bool} (R : Tile → Bool) → ((t : Tile) → R t ≡ true → Built m S t) → (t : Tile) → merged m R t ≡ true → Built m S t
+pub merged-built : {m : ℕ} {S : Tile → Bool} (R : Tile → Bool) → ((t : Tile) → R t ≡ true → Built m S t) → (t : Tile)
+    → merged m R t ≡ true → Built m S t
 merged-built {m} {S} R f t e = ⊎-elim (λ k. f t (k .0)) join (merged-cases m R t e)
   where
     join : is-joined m R t ≡ true → Built m S t
@@ -59,7 +61,8 @@ module _ {m : ℕ} {S : Tile → Bool} where
   built-held G (listed e) = G .covers _ e
   built-held {R} G (joined {p = p} l a b c d) =
       held-by-four (λ t. R t ≡ true) p (λ u v x y. G .no-four p l (rw (u, v, x, y)))
-      (by-quarter (λ i j. (r : Tile) × (R r ≡ true) × Holds r (child p i j)) (built-held G a) (built-held G b) (built-held G c) (built-held G d))
+      (by-quarter (λ i j. (r : Tile) × (R r ≡ true) × Holds r (child p i j)) (built-held G a) (built-held G b) (built-held G c)
+      (built-held G d))
 
   simplest-in : {R Q : Tile → Bool} → Simplest m S R → Simplest m S Q → (t : Tile) → R t ≡ true → Q t ≡ true
   simplest-in {R} {Q} G H t e =

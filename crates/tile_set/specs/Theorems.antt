@@ -1,4 +1,5 @@
--- What `merge`, `simplify` and `simplify_v1` do to a set of tiles, in document 01's words. Nothing is assumed but that the tiles are of the map.
+-- What `merge`, `simplify` and `simplify_v1` do to a set of tiles, in document 01's words. Nothing is assumed but that the tiles are
+-- of the map.
 use mathlib.Core.Path.{_≡_, refl, sym, _∙_}
 use mathlib.Core.Logic.{⊎-elim, _↔_, Iff·trans}
 use mathlib.Core.Bool.{Bool, true, false, true≢false}
@@ -23,8 +24,10 @@ covers-ground R S f (t, e, h) = let r = f t e in (r .0, r .1, holds-trans (r .2)
 
 -- "`merge`, one pass": the ground stays
 pub merge-keeps-ground : {D : ℕ} (m : ℕ) (S : Tile → Bool) → Within D S → (X Y : ℕ) → Covered D S X Y ↔ Covered D (merged m S) X Y
-merge-keeps-ground {D} m S w X Y =
-    (covers-ground (merged m S) S (merged-covers m S), λ g. ⊎-elim (λ k. (g .0, k .0, g .2)) (part (g .0) (g .2)) (merged-cases m S (g .0) (g .1)))
+merge-keeps-ground {D} m S w X Y = (
+  covers-ground (merged m S) S (merged-covers m S),
+  λ g. ⊎-elim (λ k. (g .0, k .0, g .2)) (part (g .0) (g .2)) (merged-cases m S (g .0) (g .1)),
+)
   where
     part : (t : Tile) → Holds t (tileAt X Y D) → joined m S t ≡ true → Covered D S X Y
     part t h k =
@@ -47,7 +50,8 @@ unfolding simplified
 simplify-keeps-ground {D} m S w X Y =
     Iff·trans (uncovered-keeps-ground 0 S X Y) (passes-keep-ground D m (uncovered 0 S) (uncovered-within 0 S w) X Y)
 
-pub simplify-v1-keeps-ground : {D : ℕ} (m : ℕ) (S : Tile → Bool) → Within D S → (X Y : ℕ) → Covered D S X Y ↔ Covered D (simplifiedV1 D m S) X Y
+pub simplify-v1-keeps-ground : {D : ℕ} (m : ℕ) (S : Tile → Bool) → Within D S → (X Y : ℕ)
+    → Covered D S X Y ↔ Covered D (simplifiedV1 D m S) X Y
 unfolding simplifiedV1
 simplify-v1-keeps-ground {D} m S w X Y =
     Iff·trans (uncovered-keeps-ground m S X Y) (passes-keep-ground D m (uncovered m S) (uncovered-within m S w) X Y)
@@ -81,11 +85,15 @@ module _ {D : ℕ} (m : ℕ) (S : Tile → Bool) (within : Within D S) where
 
   -- "`changed` says whether any did": no tile joins exactly where the set stays as it is
   pub merge-changes : ((t : Tile) → joins m S t ≡ false) ↔ ((t : Tile) → merged m S t ≡ S t)
-  merge-changes = (merged-same m S, λ same t. is-false (joins m S t) (λ e. let u = merge-takes t e in true≢false (sym (u .1) ∙ (sym (same (u .0)) ∙ u .2))))
+  merge-changes = (
+    merged-same m S,
+    λ same t. is-false (joins m S t) (λ e. let u = merge-takes t e in true≢false (sym (u .1) ∙ (sym (same (u .0)) ∙ u .2))),
+  )
 
 -- "no tile beside its own ancestor, no four siblings together; `simplify` at m = 0 gives it"
 pub settled-at-0 : {D : ℕ} (S : Tile → Bool) → Within D S
-    → ((a b : Tile) → simplified D 0 S a ≡ true → simplified D 0 S b ≡ true → Holds a b → a ≡ b) × ((p : Tile) → whole (simplified D 0 S) p ≡ false)
+    → ((a b : Tile) → simplified D 0 S a ≡ true → simplified D 0 S b ≡ true → Holds a b → a ≡ b)
+    × ((p : Tile) → whole (simplified D 0 S) p ≡ false)
 settled-at-0 {D} S w =
     let r = simplified-simplest 0 S w in
     (r .apart, λ p. is-false (whole (simplified D 0 S) p) (r .no-four p (omega arith)))

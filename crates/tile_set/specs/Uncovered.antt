@@ -16,7 +16,8 @@ unfolding anyBelow
 any-below-of zero p e = absurd (false≢true e)
 any-below-of (suc n) p e = pick (or-cases (p n) (anyBelow n p) e) (any-below-of n p)
   where
-    pick : (p n ≡ true) ⊎ (anyBelow n p ≡ true) → (anyBelow n p ≡ true → (i : ℕ) × (i < n) × (p i ≡ true)) → (i : ℕ) × (i < suc n) × (p i ≡ true)
+    pick : (p n ≡ true) ⊎ (anyBelow n p ≡ true) → (anyBelow n p ≡ true → (i : ℕ) × (i < n) × (p i ≡ true))
+        → (i : ℕ) × (i < suc n) × (p i ≡ true)
     pick (inl k) g = (n, omega arith, k)
     pick (inr k) g = let r = g k in (r .0, omega (arith, r .1), r .2)
 

@@ -13,7 +13,8 @@ use Rattle.constants.specs.Limits.{maxZoom}
 use Rattle.errors.specs.Answer.{_when_, _else_}
 use Rattle.tile.specs.OnMap.{side-small}
 use Rattle.tile.specs.declared.Tile.{Tile}
-use Rattle.tile_zbox.specs.Box.{IsBox, wrongRun, wrongEdges, boxRefusal, between, inBox, HoldsTile, zoomedIn, zoomedBy, columnsOf, rowsOf, boxLength}
+use Rattle.tile_zbox.specs.Box.{IsBox, wrongRun, wrongEdges, boxRefusal, between, inBox, HoldsTile, zoomedIn, zoomedBy, columnsOf}
+use Rattle.tile_zbox.specs.Box.{rowsOf, boxLength}
 use Rattle.tile_zbox.specs.declared.TileZBox.{TileZBox}
 
 -- of two tests neither holds
@@ -75,7 +76,8 @@ unfolding boxLength
 length-within h = mul-le-mul (columns-fit h) (rows-fit h)
 
 pub length-small : {b : TileZBox} → IsBox b → boxLength b < 2 ^ 61
-length-small {b} h = lt-of-le-of-lt (length-within h) (lt-of-le-of-lt (mul-le-mul (side-small (h .zoom)) (side-small (h .zoom))) (omega arith))
+length-small {b} h = lt-of-le-of-lt (length-within h)
+    (lt-of-le-of-lt (mul-le-mul (side-small (h .zoom)) (side-small (h .zoom))) (omega arith))
 
 -- d zooms deeper, a run of numbers below 2 ^ z is one below 2 ^ (z + d)
 pub scaled-below : {n : ℕ} (z d : ℕ) → n < 2 ^ z → n * 2 ^ d + (2 ^ d - 1) < 2 ^ (z + d)
@@ -100,4 +102,11 @@ in-holds b t e =
     let q = and-parts (between (t .x) (b .minx) (b .maxx)) (between (t .y) (b .miny) (b .maxy)) (p .1) in
     let x = and-parts (leb (b .minx) (t .x)) (leb (t .x) (b .maxx)) (q .0) in
     let y = and-parts (leb (b .miny) (t .y)) (leb (t .y) (b .maxy)) (q .1) in
-    record { zoom = eqb-true _ _ (p .0); west = leb-true _ _ (x .0); east = leb-true _ _ (x .1); north = leb-true _ _ (y .0); south = leb-true _ _ (y .1) }
+    record {
+      zoom = eqb-true _ _ (p .0);
+      west = leb-true _ _ (x .0);
+      east = leb-true _ _ (x .1);
+      north = leb-true _ _ (y .0);
+      south =
+          leb-true _ _ (y .1);
+    }

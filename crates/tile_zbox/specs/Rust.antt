@@ -135,7 +135,8 @@ deeper b (suc d) (suc turns) c l h =
     let k : b .zoom < b .zoom + suc d = omega arith in
     let m : b .zoom + 1 ≤ 29 = omega arith in
     let e : b .zoom + suc d ≡ b .zoom + 1 + d = omega arith in
-    rw (lt-ltb _ _ k, rust-zoom-in b c m, e) (deeper (zoomedIn b) d turns (zoomed-in-compared b c m) (omega arith) (omega arith) ∙ zoomed-again b d)
+    rw (lt-ltb _ _ k, rust-zoom-in b c m, e)
+    (deeper (zoomedIn b) d turns (zoomed-in-compared b c m) (omega arith) (omega arith) ∙ zoomed-again b d)
 
 -- after as many turns as zooms, or more, the loop has ended
 pub rust-zoom-depth : (b : TileZBox) (d turns : ℕ) → Compared b → b .zoom + d ≤ 29 → d ≤ turns → rustZoomDepth turns b d ≡ zoomedBy b d

@@ -9,7 +9,8 @@ use lib.Pow.{pow-pos}
 use borrow.Author.Tests.{le-ltb}
 use Rattle.constants.specs.Limits.{maxZoom}
 use Rattle.tile.specs.OnMap.{OnMap, tileAt, on-map-accepted}
-use Rattle.tile_zbox.specs.Box.{IsBox, boxRefusal, inBox, HoldsTile, containsOf, flipRow, flipped, boxFlipOf, zoomedIn, zoomedBy, zoomInOf, zoomDepthOf}
+use Rattle.tile_zbox.specs.Box.{IsBox, boxRefusal, inBox, HoldsTile, containsOf, flipRow, flipped, boxFlipOf, zoomedIn, zoomedBy}
+use Rattle.tile_zbox.specs.Box.{zoomInOf, zoomDepthOf}
 use Rattle.tile_zbox.specs.Laws.{box-accepted, accepted-box, scaled-below, in-holds}
 use Rattle.tile_zbox.specs.declared.TileZBox.{TileZBox}
 
@@ -18,7 +19,8 @@ pub the-boxes-of-the-map : (b : TileZBox) → boxRefusal b ≡ 0 ↔ IsBox b
 the-boxes-of-the-map b = (accepted-box b, box-accepted)
 
 -- document 03: "another zoom than the box's is false"
-pub another-zoom-is-false : (b : TileZBox) (x y z : ℕ) → IsBox b → OnMap x y z → (z ≡ b .zoom → ⊥) → containsOf b x y z ≡ record { number = 0; value = false }
+pub another-zoom-is-false : (b : TileZBox) (x y z : ℕ) → IsBox b → OnMap x y z → (z ≡ b .zoom → ⊥)
+    → containsOf b x y z ≡ record { number = 0; value = false }
 another-zoom-is-false b x y z i m h =
     rw (le-ltb _ _ (i .zoom), on-map-accepted m, box-accepted i)
     (ap (λ (v : Bool). record { number = 0; value = v }) (out (inBox b x y z) refl))

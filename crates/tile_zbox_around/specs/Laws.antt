@@ -47,11 +47,13 @@ pub record OneZoom (l : List ℕ) : Type 0 where
 
 pub one-zoom-accepted : {l : List ℕ} → OneZoom l → tilesRefusal l ≡ 0
 unfolding tilesRefusal
-one-zoom-accepted {l} k = let f : length l ≡ 0 → ⊥ = λ z. omega (arith, k .some) in rw (le-ltb _ _ (k .few), k .entries, ne-eqb _ _ f, k .zooms)
+one-zoom-accepted {l} k = let f : length l ≡ 0 → ⊥ = λ z. omega (arith, k .some) in
+    rw (le-ltb _ _ (k .few), k .entries, ne-eqb _ _ f, k .zooms)
 
 pub accepted-one-zoom : (l : List ℕ) → tilesRefusal l ≡ 0 → OneZoom l
 unfolding tilesRefusal
-accepted-one-zoom l e = pick (ltb maxEntries (length l)) refl (allOf isEntry l) refl (eqb (length l) 0) refl (allOf (ofZoom (zoomOfFirst l)) l) refl e
+accepted-one-zoom l e =
+    pick (ltb maxEntries (length l)) refl (allOf isEntry l) refl (eqb (length l) 0) refl (allOf (ofZoom (zoomOfFirst l)) l) refl e
   where
     pick : (a : Bool) → ltb maxEntries (length l) ≡ a → (b : Bool) → allOf isEntry l ≡ b → (c : Bool) → eqb (length l) 0 ≡ c → (d : Bool)
         → allOf (ofZoom (zoomOfFirst l)) l ≡ d
@@ -60,7 +62,8 @@ accepted-one-zoom l e = pick (ltb maxEntries (length l)) refl (allOf isEntry l) 
     pick false p false q c r d s e = absurd (omega arith)
     pick false p true q true r d s e = absurd (omega arith)
     pick false p true q false r false s e = absurd (omega arith)
-    pick false p true q false r true s e = let f = eqb-false _ _ r in record { few = ltb-false _ _ p; entries = q; some = nonzero (length l) f; zooms = s }
+    pick false p true q false r true s e = let f = eqb-false _ _ r in
+        record { few = ltb-false _ _ p; entries = q; some = nonzero (length l) f; zooms = s }
       where
         nonzero : (n : ℕ) → (n ≡ 0 → ⊥) → 0 < n
         nonzero zero f = absurd (f refl)
@@ -84,7 +87,8 @@ unfolding boxAround least greatest
 around-first [] h = absurd (omega arith)
 around-first (n ∷ ns) h = rw (max-zero (entryTile n .x), max-zero (entryTile n .y))
 
-pub around-more : (l : List ℕ) (i : ℕ) → 0 < i → i < length l → grown (boxAround (take i l)) (entryTile (getD l i 0)) ≡ boxAround (take (i + 1) l)
+pub around-more : (l : List ℕ) (i : ℕ) → 0 < i → i < length l
+    → grown (boxAround (take i l)) (entryTile (getD l i 0)) ≡ boxAround (take (i + 1) l)
 unfolding boxAround
 around-more [] i h k = absurd (omega arith)
 around-more (n ∷ ns) zero h k = absurd (omega arith)

@@ -49,7 +49,8 @@ higher-is a b = pick (ltb b a) refl
     pick true e = sym (max-eq-left (le-of-lt (ltb-true b a e)))
     pick false e = sym (max-eq-right (ltb-false b a e))
 
-moved-is : (b : TileZBox) (t : Tile) → moved b t ≡ boxAt (b .zoom) (min (t .x) (b .minx)) (max (t .x) (b .maxx)) (min (t .y) (b .miny)) (max (t .y) (b .maxy))
+moved-is : (b : TileZBox) (t : Tile)
+    → moved b t ≡ boxAt (b .zoom) (min (t .x) (b .minx)) (max (t .x) (b .maxx)) (min (t .y) (b .miny)) (max (t .y) (b .maxy))
 moved-is b t = rw (lower-is (t .x) (b .minx), higher-is (t .x) (b .maxx), lower-is (t .y) (b .miny), higher-is (t .y) (b .maxy))
 
 -- the four numbers and those of a list of at least one tile
@@ -96,7 +97,8 @@ walked : (n : ℕ) (ns : List ℕ) (b : TileZBox) → allOf (ofZoom (b .zoom)) (
 unfolding allOf
 walked n [] b e =
     let h = and-parts (ofZoom (b .zoom) n) true e in
-    walk-fine b (entryTile n) [] (h .0) ∙ (walk-none (moved b (entryTile n)) ∙ ap (λ (v : TileZBox). record { fine = true; box = v }) (moved-one b n))
+    walk-fine b (entryTile n) [] (h .0)
+    ∙ (walk-none (moved b (entryTile n)) ∙ ap (λ (v : TileZBox). record { fine = true; box = v }) (moved-one b n))
 walked n (m ∷ ms) b e =
     let h = and-parts (ofZoom (b .zoom) n) (allOf (ofZoom (b .zoom)) (m ∷ ms)) e in
     walk-fine b (entryTile n) (map entryTile (m ∷ ms)) (h .0)

@@ -23,7 +23,8 @@ least-below f [] i h = absurd (omega arith)
 least-below f (n ∷ []) zero h = omega arith
 least-below f (n ∷ []) (suc i) h = absurd (omega arith)
 least-below f (n ∷ (m ∷ ms)) zero h = min-le-left _ _
-least-below f (n ∷ (m ∷ ms)) (suc i) h = let k = least-below f (m ∷ ms) i (omega arith) in omega (arith, min-le-right (f n) (least (map f (m ∷ ms))))
+least-below f (n ∷ (m ∷ ms)) (suc i) h = let k = least-below f (m ∷ ms) i (omega arith) in
+    omega (arith, min-le-right (f n) (least (map f (m ∷ ms))))
 
 least-bound : (f : ℕ → ℕ) (l : List ℕ) (b : ℕ) → 0 < length l → ((i : ℕ) → i < length l → b ≤ f (getD l i 0)) → b ≤ least (map f l)
 unfolding least
@@ -43,7 +44,8 @@ greatest-bound f [] b k = omega arith
 greatest-bound f (n ∷ ns) b k = max-le (k 0 (omega arith)) (greatest-bound f ns b (λ i j. k (suc i) (omega arith)))
 
 -- "`from_tiles`": its box holds every listed tile
-pub from-tiles-holds-every-listed-tile : (l : List ℕ) (i : ℕ) → tilesRefusal l ≡ 0 → i < length l → HoldsTile (boxAround l) (entryTile (getD l i 0))
+pub from-tiles-holds-every-listed-tile : (l : List ℕ) (i : ℕ) → tilesRefusal l ≡ 0 → i < length l
+    → HoldsTile (boxAround l) (entryTile (getD l i 0))
 unfolding boxAround
 from-tiles-holds-every-listed-tile l i e h =
     let k = accepted-one-zoom l e in
@@ -77,10 +79,12 @@ from-tiles-gives-a-box l e =
     let k = accepted-one-zoom l e in
     let m : (i : ℕ) → i < length l → OnMap (entryTile (getD l i 0) .x) (entryTile (getD l i 0) .y) (entryTile (getD l i 0) .z) =
     λ i h. accepted-entry (getD l i 0) (entry-at l i (k .entries) h) in
-    let z : (i : ℕ) → i < length l → entryTile (getD l i 0) .z ≡ zoomOfFirst l = λ i h. eqb-true _ _ (all-at (ofZoom (zoomOfFirst l)) l i (k .zooms) h) in
+    let z : (i : ℕ) → i < length l → entryTile (getD l i 0) .z ≡ zoomOfFirst l =
+    λ i h. eqb-true _ _ (all-at (ofZoom (zoomOfFirst l)) l i (k .zooms) h) in
     let p = pow-pos (zoomOfFirst l) in
     let x = greatest-bound entryColumn l (2 ^ zoomOfFirst l - 1)
-    (λ i h. let r : entryColumn (getD l i 0) < 2 ^ zoomOfFirst l = subst (λ (n : ℕ). entryColumn (getD l i 0) < 2 ^ n) (z i h) (m i h .column) in
+    (λ i h. let r : entryColumn (getD l i 0) < 2 ^ zoomOfFirst l =
+    subst (λ (n : ℕ). entryColumn (getD l i 0) < 2 ^ n) (z i h) (m i h .column) in
     omega arith) in
     let y = greatest-bound entryRow l (2 ^ zoomOfFirst l - 1)
     (λ i h. let r : entryRow (getD l i 0) < 2 ^ zoomOfFirst l = subst (λ (n : ℕ). entryRow (getD l i 0) < 2 ^ n) (z i h) (m i h .row) in

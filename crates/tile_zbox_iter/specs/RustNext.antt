@@ -1,4 +1,5 @@
--- The Rust's iterator over a box, as a function on values in 32 bits, that over a box of zoom 0 to 29 it gives the tiles of our cursor, and its hint.
+-- The Rust's iterator over a box, as a function on values in 32 bits, that over a box of zoom 0 to 29 it gives the tiles of our
+-- cursor, and its hint.
 use mathlib.Core.Path.{_≡_, refl, sym, ap, _∙_, subst}
 use mathlib.Core.Bool.{Bool, true, false, cond}
 use mathlib.Core.List.{List, [], _∷_}
@@ -70,7 +71,8 @@ rust-fits b k s i a h =
     (omega (arith, a .east), omega (arith, a .north, i .rows))
 
 -- the row's end, turned or not, is the same place; and then the column is one of the box
-row-turned : (b : TileZBox) (k : ℕ) (s : RustState) → Compared b → After b k s → b .maxx < s .column → After b k (stateAt (b .minx) (s .row + 1))
+row-turned : (b : TileZBox) (k : ℕ) (s : RustState) → Compared b → After b k s → b .maxx < s .column
+    → After b k (stateAt (b .minx) (s .row + 1))
 row-turned b k s i a h =
     let n = a .north in
     let w : s .column - b .minx ≡ columnsOf b = omega (arith, a .west, a .east, i .columns) in
@@ -87,7 +89,8 @@ row-turned b k s i a h =
 
 turned-after : (b : TileZBox) (k : ℕ) (s : RustState) → Compared b → After b k s → k ≤ boxLength b
     → After b k (rustTurned b s) × (rustTurned b s .column ≤ b .maxx)
-turned-after b k s i a l = let h : s .row + 1 < 2 ^ 32 = omega (arith, rust-fits b k s i a l) in rw (mod-eq-of-lt h) (pick (ltb (b .maxx) (s .column)) refl)
+turned-after b k s i a l = let h : s .row + 1 < 2 ^ 32 = omega (arith, rust-fits b k s i a l) in
+    rw (mod-eq-of-lt h) (pick (ltb (b .maxx) (s .column)) refl)
   where
     pick : (t : Bool) → ltb (b .maxx) (s .column) ≡ t
         → After b k (cond t (stateAt (b .minx) (s .row + 1)) s) × (cond t (stateAt (b .minx) (s .row + 1)) s .column ≤ b .maxx)
@@ -161,8 +164,10 @@ drained b (suc calls) (suc n) k s i a e h =
     rw (g .0, g .1, o)
 
 -- one box of zoom 0 to 29: its iterator ends by itself, however many calls there may be
-pub rust-drained : (b : TileZBox) (calls : ℕ) → Compared b → boxLength b < calls → rustDrained calls b (stateAt (b .minx) (b .miny)) ≡ boxTiles b
-rust-drained b calls i h = drained b calls (boxLength b) 0 (stateAt (b .minx) (b .miny)) i (rust-starts b i) (omega arith) h ∙ numbered-all b
+pub rust-drained : (b : TileZBox) (calls : ℕ) → Compared b → boxLength b < calls
+    → rustDrained calls b (stateAt (b .minx) (b .miny)) ≡ boxTiles b
+rust-drained b calls i h =
+    drained b calls (boxLength b) 0 (stateAt (b .minx) (b .miny)) i (rust-starts b i) (omega arith) h ∙ numbered-all b
 
 -- `size_hint` multiplies in 32 bits, as `length` does, and asks nothing of where the iterator stands: its two numbers are the same
 abbrev pub rustSizeHint : TileZBox → ℕ

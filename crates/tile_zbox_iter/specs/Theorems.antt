@@ -35,7 +35,8 @@ pub past-the-end-is-refused : (b : TileZBox) (k : ℕ) → IsBox b → boxLength
 past-the-end-is-refused b k i h = rw (box-accepted i, lt-ltb _ _ h)
 
 -- every tile of the box is given exactly once
-pub every-tile-exactly-once : (b : TileZBox) (t : Tile) → HoldsTile b t → (k : ℕ) × (k < boxLength b) × (kthTile b k ≡ t) × ((j : ℕ) → kthTile b j ≡ t → j ≡ k)
+pub every-tile-exactly-once : (b : TileZBox) (t : Tile) → HoldsTile b t
+    → (k : ℕ) × (k < boxLength b) × (kthTile b k ≡ t) × ((j : ℕ) → kthTile b j ≡ t → j ≡ k)
 every-tile-exactly-once b t h = (indexOf b t, index-below b t h, kth-of-index b t h, λ j e. sym (index-of-kth b j) ∙ ap (indexOf b) e)
 
 -- and no other is
@@ -74,5 +75,6 @@ contains-exactly-the-tiles b t i m = (
     told = rw (le-ltb _ _ (i .zoom), on-map-accepted m, box-accepted i)
 
 -- `size_hint`: the hint never falls: it is not how many tiles are left
-pub the-hint-never-falls : (b : TileZBox) (k : ℕ) → IsBox b → k ≤ boxLength b → sizeHintOf (cursorAt b k) ≡ record { number = 0; value = boxLength b }
+pub the-hint-never-falls : (b : TileZBox) (k : ℕ) → IsBox b → k ≤ boxLength b
+    → sizeHintOf (cursorAt b k) ≡ record { number = 0; value = boxLength b }
 the-hint-never-falls b k i h = rw (box-accepted i, le-ltb _ _ h)

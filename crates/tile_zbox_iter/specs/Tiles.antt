@@ -49,14 +49,16 @@ numbered-append b k (suc m) n =
     let e : suc k + m ≡ k + suc m = omega arith in
     rw (suc-add m n, ← e) (ap (λ (l : List Tile). kthTile b k ∷ l) (numbered-append b (suc k) m n))
 
-numbered-row : (b : TileZBox) (r j n : ℕ) → j + n ≤ columnsOf b → numberedFrom b (r * columnsOf b + j) n ≡ rowFrom (b .zoom) (b .miny + r) (b .minx + j) n
+numbered-row : (b : TileZBox) (r j n : ℕ) → j + n ≤ columnsOf b
+    → numberedFrom b (r * columnsOf b + j) n ≡ rowFrom (b .zoom) (b .miny + r) (b .minx + j) n
 unfolding numberedFrom rowFrom
 numbered-row b r j zero h = refl
 numbered-row b r j (suc n) h =
     let l : j < columnsOf b = omega arith in
     let e : suc (r * columnsOf b + j) ≡ r * columnsOf b + suc j = omega arith in
     let f : suc (b .minx + j) ≡ b .minx + suc j = omega arith in
-    rw (kth-at b r j l, e, f) (ap (λ (t : List Tile). tileAt (b .minx + j) (b .miny + r) (b .zoom) ∷ t) (numbered-row b r (suc j) n (omega arith)))
+    rw (kth-at b r j l, e, f)
+    (ap (λ (t : List Tile). tileAt (b .minx + j) (b .miny + r) (b .zoom) ∷ t) (numbered-row b r (suc j) n (omega arith)))
 
 numbered-rows : (b : TileZBox) (r n : ℕ) → numberedFrom b (r * columnsOf b) (n * columnsOf b) ≡ rowsFrom b (b .miny + r) n
 unfolding numberedFrom rowsFrom
@@ -69,7 +71,8 @@ numbered-rows b r (suc n) =
     let s : suc (b .miny + r) ≡ b .miny + suc r = omega arith in
     let x : b .minx ≡ b .minx + 0 = omega arith in
     let row : numberedFrom b (r * c) c ≡ rowFrom (b .zoom) (b .miny + r) (b .minx) c =
-    ap (λ (k : ℕ). numberedFrom b k c) q ∙ (numbered-row b r 0 c (omega arith) ∙ ap (λ (k : ℕ). rowFrom (b .zoom) (b .miny + r) k c) (sym x)) in
+    ap (λ (k : ℕ). numberedFrom b k c) q
+    ∙ (numbered-row b r 0 c (omega arith) ∙ ap (λ (k : ℕ). rowFrom (b .zoom) (b .miny + r) k c) (sym x)) in
     ap (numberedFrom b (r * c)) m
     ∙ (numbered-append b (r * c) c (n * c)
     ∙ ap₂ _++_ row (ap (λ (k : ℕ). numberedFrom b k (n * c)) p
@@ -94,7 +97,8 @@ numbered-at : (b : TileZBox) (k n i : ℕ) → i < n → getD (numberedFrom b k 
 unfolding numberedFrom
 numbered-at b k zero i h = absurd (omega arith)
 numbered-at b k (suc n) zero h = let e : k + 0 ≡ k = omega arith in rw e
-numbered-at b k (suc n) (suc i) h = let e : suc k + i ≡ k + suc i = omega arith in numbered-at b (suc k) n i (omega arith) ∙ ap (kthTile b) e
+numbered-at b k (suc n) (suc i) h = let e : suc k + i ≡ k + suc i = omega arith in
+    numbered-at b (suc k) n i (omega arith) ∙ ap (kthTile b) e
 
 pub tile-of-box-at : (b : TileZBox) (k : ℕ) → k < boxLength b → getD (boxTiles b) k noTile ≡ kthTile b k
 tile-of-box-at b k h =
@@ -117,7 +121,8 @@ pub number-member : (b : TileZBox) (k n j : ℕ) → j < n → List·Memᴰ (kth
 unfolding numberedFrom
 number-member b k zero j h = absurd (omega arith)
 number-member b k (suc n) zero h = let e : k + 0 ≡ k = omega arith in rw e (List·Memᴰ.List·Memᴰ·head refl)
-number-member b k (suc n) (suc j) h = let e : k + suc j ≡ suc k + j = omega arith in rw e (List·Memᴰ.List·Memᴰ·tail (number-member b (suc k) n j (omega arith)))
+number-member b k (suc n) (suc j) h = let e : k + suc j ≡ suc k + j = omega arith in
+    rw e (List·Memᴰ.List·Memᴰ·tail (number-member b (suc k) n j (omega arith)))
 
 -- the column and the row of a tile's number are within the box
 pub column-below : (b : TileZBox) (k : ℕ) → k % columnsOf b < columnsOf b
@@ -166,10 +171,12 @@ pub next-gives : (b : TileZBox) (k : ℕ) → IsBox b → k < boxLength b
     → nextOf (cursorAt b k) ≡ record { number = 0; value = stepGiven (kthTile b k) (cursorAt b (k + 1)) }
 next-gives b k i h = let l : k ≤ boxLength b = omega arith in rw (box-accepted i, le-ltb _ _ l, lt-ltb _ _ h)
 
-pub next-ends : (b : TileZBox) → IsBox b → nextOf (cursorAt b (boxLength b)) ≡ record { number = 0; value = stepEnded (cursorAt b (boxLength b)) }
+pub next-ends : (b : TileZBox) → IsBox b
+    → nextOf (cursorAt b (boxLength b)) ≡ record { number = 0; value = stepEnded (cursorAt b (boxLength b)) }
 next-ends b i = let l : boxLength b ≤ boxLength b = omega arith in rw (box-accepted i, le-ltb _ _ l)
 
-pub gives-numbered : (b : TileZBox) (k n : ℕ) → IsBox b → k + n ≤ boxLength b → CursorGives (cursorAt b k) (numberedFrom b k n) (cursorAt b (k + n))
+pub gives-numbered : (b : TileZBox) (k n : ℕ) → IsBox b → k + n ≤ boxLength b
+    → CursorGives (cursorAt b k) (numberedFrom b k n) (cursorAt b (k + n))
 unfolding numberedFrom
 gives-numbered b k zero i h = let e : k + 0 ≡ k = omega arith in rw e none
 gives-numbered b k (suc n) i h =

@@ -1,5 +1,5 @@
--- Several boxes: the refusals of whoever sends them, and the sum of their lengths. The same of boxes as plain numbers, five for each: zoom, minx, maxx,
--- miny, maxy, and the flipped boxes.
+-- Several boxes: the refusals of whoever sends them, and the sum of their lengths. The same of boxes as plain numbers, five for each:
+-- zoom, minx, maxx, miny, maxy, and the flipped boxes.
 use mathlib.Core.Bool.{Bool, not}
 use mathlib.Core.List.{List, [], _∷_, map}
 use Prim.Native.Nat.{ℕ, zero, suc, _+_, _/_, _%_}

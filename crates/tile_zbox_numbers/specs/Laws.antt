@@ -22,7 +22,8 @@ use Rattle.tile_zbox_numbers.specs.Boxes.{deep, refusalOver, boxesRefusa
 use Rattle.tile_zbox_numbers.specs.Boxes.{numbers, numbersOf, flippedNumbers}
 
 -- boxes five numbers by five numbers: the box at a place, as the code reads and writes it
-pub box-at : (l : List ℕ) (at : ℕ) → boxAt (getD l at 0) (getD l (at + 1) 0) (getD l (at + 2) 0) (getD l (at + 3) 0) (getD l (at + 4) 0) ≡ boxFrom (drop at l)
+pub box-at : (l : List ℕ) (at : ℕ)
+    → boxAt (getD l at 0) (getD l (at + 1) 0) (getD l (at + 2) 0) (getD l (at + 3) 0) (getD l (at + 4) 0) ≡ boxFrom (drop at l)
 box-at l at = rw (getD-drop at l 0 0, getD-drop at l 1 0, getD-drop at l 2 0, getD-drop at l 3 0, getD-drop at l 4 0, add-zero at)
 
 pub five-sets : (l : List ℕ) (at a b c d e : ℕ)
@@ -126,7 +127,8 @@ boxes-over l e h f = rw (e, boxes-count (length l / 5) l, le-ltb _ _ h, ne-eqb _
     either true = refl
     either false = refl
 
-pub boxes-wrong : (l : List ℕ) → anyOf deep (boxesOf l) ≡ false → length l / 5 ≤ maxBoxes → anyOf wrongEdges (boxesOf l) ≡ true → numbersRefusal l ≡ 10
+pub boxes-wrong : (l : List ℕ) → anyOf deep (boxesOf l) ≡ false → length l / 5 ≤ maxBoxes → anyOf wrongEdges (boxesOf l) ≡ true
+    → numbersRefusal l ≡ 10
 unfolding numbersRefusal refusalOver
 boxes-wrong l e h g = rw (e, boxes-count (length l / 5) l, le-ltb _ _ h, g)
 
@@ -172,7 +174,8 @@ sum-within (b ∷ bs) f =
 pub fine-fits : (bs : List TileZBox) → Fine bs → length bs ≤ maxBoxes → sumLengths bs < 2 ^ 64
 fine-fits bs f h =
     let w = sum-within bs f in
-    let m : length bs * (2 ^ maxZoom * 2 ^ maxZoom) ≤ maxBoxes * (2 ^ maxZoom * 2 ^ maxZoom) = mul-le-mul-right (2 ^ maxZoom * 2 ^ maxZoom) h in
+    let m : length bs * (2 ^ maxZoom * 2 ^ maxZoom) ≤ maxBoxes * (2 ^ maxZoom * 2 ^ maxZoom) =
+    mul-le-mul-right (2 ^ maxZoom * 2 ^ maxZoom) h in
     omega (arith, boxes-limit)
 
 pub sum-fits : (l : List ℕ) → numbersRefusal l ≡ 0 → sumLengths (boxesOf l) < 2 ^ 64
@@ -187,7 +190,8 @@ unfolding sumLengths
 sum-none = refl
 
 -- boxes as numbers
-pub numbers-step : (b : TileZBox) (bs : List TileZBox) → numbersOf (map flipped (b ∷ bs)) ≡ numbers (flipped b) ++ numbersOf (map flipped bs)
+pub numbers-step : (b : TileZBox) (bs : List TileZBox)
+    → numbersOf (map flipped (b ∷ bs)) ≡ numbers (flipped b) ++ numbersOf (map flipped bs)
 unfolding numbersOf
 numbers-step b bs = refl
 
@@ -197,7 +201,8 @@ numbers-length [] = refl
 numbers-length (b ∷ bs) = omega (arith, numbers-length bs)
 
 pub flipped-length : (l : List ℕ) → length l % 5 ≡ 0 → length (flippedNumbers l) ≡ length l
-flipped-length l e = rw (numbers-length (map flipped (boxesOf l)), length-map (boxesOf l) flipped, boxes-count (length l / 5) l) (omega arith)
+flipped-length l e = rw (numbers-length (map flipped (boxesOf l)), length-map (boxesOf l) flipped, boxes-count (length l / 5) l)
+    (omega arith)
 
 -- a few numbers more at the front of the memory
 pub front-on : (items memory vs rest : List ℕ) (at : ℕ) → at ≤ length items → drop at items ≡ vs ++ rest → at + length vs ≤ length memory

@@ -10,7 +10,8 @@ use Rattle.bits.specs.Tests.{anyOf, in-any}
 use Rattle.constants.specs.Limits.{maxZoom, maxBoxes}
 use Rattle.tile_zbox.specs.Box.{wrongEdges}
 use Rattle.tile_zbox.specs.declared.TileZBox.{TileZBox}
-use Rattle.tile_zbox_numbers.specs.Boxes.{deep, refusalOver, sumLengths, boxesLengthOf, boxesFrom, boxesOf, numbersLengthOf, numbersOf}
+use Rattle.tile_zbox_numbers.specs.Boxes.{deep, refusalOver, sumLengths, boxesLengthOf, boxesFrom, boxesOf, numbersLengthOf}
+use Rattle.tile_zbox_numbers.specs.Boxes.{numbersOf}
 use Rattle.tile_zbox_numbers.specs.Laws.{any-none, Fine, over-accepted, whole-refusal, numbers-length}
 
 -- five numbers for each box lead back to the boxes
@@ -30,15 +31,19 @@ boxes-as-numbers bs =
     numbers-as-boxes (numbersOf bs) (omega (arith, numbers-length bs)) ∙ ap boxesLengthOf e
 
 -- the sum of the lengths, overlaps counted twice, of boxes of the map that are not too many
-pub boxes-length-is-the-sum : (bs : List TileZBox) → Fine bs → length bs ≤ maxBoxes → boxesLengthOf bs ≡ record { number = 0; value = sumLengths bs }
+pub boxes-length-is-the-sum : (bs : List TileZBox) → Fine bs → length bs ≤ maxBoxes
+    → boxesLengthOf bs ≡ record { number = 0; value = sumLengths bs }
 boxes-length-is-the-sum bs f h = let a = over-accepted f h in rw a
 
--- one box of a zoom above the deepest is 1, however many there are; without one, too many are 6, whatever their edges; and a wrong one among a few is 10
-pub a-deep-box-is-1 : (bs : List TileZBox) (b : TileZBox) → List·Memᴰ b bs → maxZoom < b .zoom → boxesLengthOf bs ≡ record { number = 1; value = 0 }
+-- one box of a zoom above the deepest is 1, however many there are; without one, too many are 6, whatever their edges; and a wrong one
+-- among a few is 10
+pub a-deep-box-is-1 : (bs : List TileZBox) (b : TileZBox) → List·Memᴰ b bs → maxZoom < b .zoom
+    → boxesLengthOf bs ≡ record { number = 1; value = 0 }
 unfolding refusalOver
 a-deep-box-is-1 bs b m h = rw (in-any deep bs m (lt-ltb _ _ h))
 
-pub too-many-boxes-are-6 : (bs : List TileZBox) → anyOf deep bs ≡ false → maxBoxes < length bs → boxesLengthOf bs ≡ record { number = 6; value = 0 }
+pub too-many-boxes-are-6 : (bs : List TileZBox) → anyOf deep bs ≡ false → maxBoxes < length bs
+    → boxesLengthOf bs ≡ record { number = 6; value = 0 }
 unfolding refusalOver
 too-many-boxes-are-6 bs e h = rw (e, lt-ltb _ _ h)
 

@@ -74,14 +74,17 @@ one-more n bs b = rw (any-last deep bs b, any-last wrongEdges bs b, sum-last bs 
     (first-more (anyOf deep bs) (ltb maxBoxes n) (anyOf wrongEdges bs) (deep b) (wrongEdges b) (sumLengths bs) (boxLength b))
 
 -- the box at place i of the list, where the first i are read
-pub with-next : (n i : ℕ) (bs : List TileZBox) → i < length bs → soFar n (take i bs) plus lengthOf (getD bs i noBox) ≡ soFar n (take (i + 1) bs)
-with-next n i bs h = sym (one-more n (take i bs) (getD bs i noBox)) ∙ ap (soFar n) (sym (ap (λ (k : ℕ). take k bs) (add-one i) ∙ take-suc bs i noBox h))
+pub with-next : (n i : ℕ) (bs : List TileZBox) → i < length bs
+    → soFar n (take i bs) plus lengthOf (getD bs i noBox) ≡ soFar n (take (i + 1) bs)
+with-next n i bs h = sym (one-more n (take i bs) (getD bs i noBox))
+    ∙ ap (soFar n) (sym (ap (λ (k : ℕ). take k bs) (add-one i) ∙ take-suc bs i noBox h))
 
 -- where a box is still to come, its length can be added
 room-for-one : (n : ℕ) (bs : List TileZBox) (b : TileZBox) → length bs < n → soFar n bs .value + lengthOf b .value < 2 ^ 64
 room-for-one n bs b h = pick (refusalOver bs n) refl (boxRefusal b) refl
   where
-    pick : (r : ℕ) → refusalOver bs n ≡ r → (t : ℕ) → boxRefusal b ≡ t → answer r 0 (sumLengths bs) .value + answer t 0 (boxLength b) .value < 2 ^ 64
+    pick : (r : ℕ) → refusalOver bs n ≡ r → (t : ℕ) → boxRefusal b ≡ t
+        → answer r 0 (sumLengths bs) .value + answer t 0 (boxLength b) .value < 2 ^ 64
     pick (suc r) p (suc t) q = omega arith
     pick (suc r) p zero q = omega (arith, length-small (accepted-box b q))
     pick zero p (suc t) q = let k = accepted-over bs n p in let f = fine-fits bs (k .0) (omega (arith, k .1)) in omega arith
@@ -91,7 +94,8 @@ room-for-one n bs b h = pick (refusalOver bs n) refl (boxRefusal b) refl
         let e = sum-step b bs in
         omega arith
 
-pub room-for-next : (i : ℕ) (bs : List TileZBox) → i < length bs → soFar (length bs) (take i bs) .value + lengthOf (getD bs i noBox) .value < 2 ^ 64
+pub room-for-next : (i : ℕ) (bs : List TileZBox) → i < length bs
+    → soFar (length bs) (take i bs) .value + lengthOf (getD bs i noBox) .value < 2 ^ 64
 room-for-next i bs h = room-for-one (length bs) (take i bs) (getD bs i noBox) (omega (arith, length-take-le i bs (omega arith)))
 
 pub all-read : (i : ℕ) (bs : List TileZBox) → length bs ≤ i → soFar (length bs) (take i bs) ≡ boxesLengthOf bs

@@ -13,7 +13,8 @@ use Rattle.tile_zbox_iter.specs.Cursor.{kthTile}
 use Rattle.tile_zbox_iter.specs.Theorems.{length-counts-the-tiles}
 use Rattle.tile_zbox_iter.specs.Tiles.{boxTiles, tile-of-box-at}
 use Rattle.tile_zbox_numbers.specs.Boxes.{sumLengths, boxFrom, boxesFrom, boxesOf, numbersRefusal}
-use Rattle.tile_zbox_numbers.specs.Laws.{boxes-step, boxes-end, Fine, fine-first, first-zoom, all-boxes-accepted, accepted-all-boxes, sum-step, sum-none}
+use Rattle.tile_zbox_numbers.specs.Laws.{boxes-step, boxes-end, Fine, fine-first, first-zoom, all-boxes-accepted, accepted-all-boxes}
+use Rattle.tile_zbox_numbers.specs.Laws.{sum-step, sum-none}
 use Rattle.tile_zboxes_iter.specs.Cursor.{tilesOfAll}
 
 -- there are as many as the sum says
@@ -27,7 +28,8 @@ pub in-the-first : (b : TileZBox) (bs : List TileZBox) (k : ℕ) → k < boxLeng
 unfolding tilesOfAll
 in-the-first b bs k h = List·getD-append (boxTiles b) (tilesOfAll bs) noTile k (rw (length-counts-the-tiles b) h) ∙ tile-of-box-at b k h
 
-pub behind-the-first : (b : TileZBox) (bs : List TileZBox) (k : ℕ) → getD (tilesOfAll (b ∷ bs)) (boxLength b + k) noTile ≡ getD (tilesOfAll bs) k noTile
+pub behind-the-first : (b : TileZBox) (bs : List TileZBox) (k : ℕ)
+    → getD (tilesOfAll (b ∷ bs)) (boxLength b + k) noTile ≡ getD (tilesOfAll bs) k noTile
 unfolding tilesOfAll
 behind-the-first b bs k =
     ap (λ (n : ℕ). getD (boxTiles b ++ tilesOfAll bs) (n + k) noTile) (sym (length-counts-the-tiles b))
@@ -70,15 +72,23 @@ first-box {l} {k} a =
     let s : boxesOf l ≡ boxFrom l ∷ boxesOf (drop 5 l) = boxes-split l h in
     let f : IsBox (boxFrom l) × Fine (boxesOf (drop 5 l)) = fine-first (boxFrom l) (boxesOf (drop 5 l)) (rw s at (w .fine)) in
     let d = length-drop 5 l in
-    record { five = h; box = f .0; split = s; rest = all-boxes-accepted (record { fine = f .1; few = omega (arith, w .few); whole = omega (arith, w .whole) }) }
+    record {
+      five = h;
+      box = f .0;
+      split = s;
+      rest =
+          all-boxes-accepted (record { fine = f .1; few = omega (arith, w .few); whole = omega (arith, w .whole) });
+    }
 
 -- the five numbers of the box at a place can be read, and its zoom is one of the map's
 pub box-readable : (l : List ℕ) (at : ℕ) {k : ℕ} → Ahead (drop at l) k → (at + 5 ≤ length l) × (getD l at 0 ≤ maxZoom)
 box-readable l at a = let f = first-box a in (omega (arith, length-drop at l, f .five), rw (first-zoom l at) at (f .box .zoom))
 
 -- the tile is the first box's, or stands so many places nearer among the tiles of the others
-pub tile-here : {l : List ℕ} {k : ℕ} → Ahead l k → k < boxLength (boxFrom l) → getD (tilesOfAll (boxesOf l)) k noTile ≡ kthTile (boxFrom l) k
-tile-here {l} {k} a h = ap (λ (bs : List TileZBox). getD (tilesOfAll bs) k noTile) (first-box a .split) ∙ in-the-first (boxFrom l) (boxesOf (drop 5 l)) k h
+pub tile-here : {l : List ℕ} {k : ℕ} → Ahead l k → k < boxLength (boxFrom l)
+    → getD (tilesOfAll (boxesOf l)) k noTile ≡ kthTile (boxFrom l) k
+tile-here {l} {k} a h =
+    ap (λ (bs : List TileZBox). getD (tilesOfAll bs) k noTile) (first-box a .split) ∙ in-the-first (boxFrom l) (boxesOf (drop 5 l)) k h
 
 pub tile-later : {l : List ℕ} {k : ℕ} → Ahead l k → boxLength (boxFrom l) ≤ k
     → getD (tilesOfAll (boxesOf l)) k noTile ≡ getD (tilesOfAll (boxesOf (drop 5 l))) (k - boxLength (boxFrom l)) noTile
@@ -86,7 +96,8 @@ tile-later {l} {k} a h =
     let n = boxLength (boxFrom l) in
     let e : n + (k - n) ≡ k = omega arith in
     ap (λ (bs : List TileZBox). getD (tilesOfAll bs) k noTile) (first-box a .split)
-    ∙ (ap (λ (m : ℕ). getD (tilesOfAll (boxFrom l ∷ boxesOf (drop 5 l))) m noTile) (sym e) ∙ behind-the-first (boxFrom l) (boxesOf (drop 5 l)) (k - n))
+    ∙ (ap (λ (m : ℕ). getD (tilesOfAll (boxFrom l ∷ boxesOf (drop 5 l))) m noTile) (sym e)
+    ∙ behind-the-first (boxFrom l) (boxesOf (drop 5 l)) (k - n))
 
 pub ahead-later : {l : List ℕ} {k : ℕ} → Ahead l k → boxLength (boxFrom l) ≤ k → Ahead (drop 5 l) (k - boxLength (boxFrom l))
 ahead-later {l} {k} a h =
@@ -100,5 +111,6 @@ ahead-later {l} {k} a h =
 -- past the first box of the numbers from a place on
 pub ahead-on : (l : List ℕ) (at : ℕ) {k : ℕ} → Ahead (drop at l) k → boxLength (boxFrom (drop at l)) ≤ k
     → Ahead (drop (at + 5) l) (k - boxLength (boxFrom (drop at l)))
-    × (getD (tilesOfAll (boxesOf (drop at l))) k noTile ≡ getD (tilesOfAll (boxesOf (drop (at + 5) l))) (k - boxLength (boxFrom (drop at l))) noTile)
+    × (getD (tilesOfAll (boxesOf (drop at l))) k noTile
+    ≡ getD (tilesOfAll (boxesOf (drop (at + 5) l))) (k - boxLength (boxFrom (drop at l))) noTile)
 ahead-on l at a h = rw (← drop-drop 5 at l) (ahead-later a h, tile-later a h)

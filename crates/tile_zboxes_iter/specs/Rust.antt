@@ -30,7 +30,8 @@ rust-collected [] calls f z h = refl
 rust-collected (b ∷ bs) calls f z h =
     let p = fine-first b bs f in
     let c = boxes-compared (p .0) (z b (List·Memᴰ·head refl)) in
-    ap₂ _++_ (rust-drained b calls c (omega (arith, length-small (p .0)))) (rust-collected bs calls (p .1) (λ b m. z b (List·Memᴰ·tail m)) h)
+    ap₂ _++_ (rust-drained b calls c (omega (arith, length-small (p .0))))
+    (rust-collected bs calls (p .1) (λ b m. z b (List·Memᴰ·tail m)) h)
 
 -- the `Vec` is then walked from its front to its end: the cursor gives the same tiles in the same order, and no more
 pub rust-into-iter : (l : List ℕ) (calls : ℕ) → numbersRefusal l ≡ 0 → AllTo29 (boxesOf l) → 2 ^ 61 ≤ calls

@@ -32,7 +32,8 @@ filter-append test (a ∷ l) m = rw (filter-append test l m) (pick (test a))
 pub filter-range : (test : ℕ → Bool) (n : ℕ) → filter test (range n) ≡ those test n
 unfolding filter range those
 filter-range test zero = refl
-filter-range test (suc n) = filter-append test (range n) (n ∷ []) ∙ ap (λ (l : List ℕ). l ++ cond (test n) (n ∷ []) []) (filter-range test n)
+filter-range test (suc n) =
+    filter-append test (range n) (n ∷ []) ∙ ap (λ (l : List ℕ). l ++ cond (test n) (n ∷ []) []) (filter-range test n)
 
 -- ---- the zooms of a set
 
@@ -43,12 +44,14 @@ turned-bit zset i h =
     bit-half (reverseBits zset) i ∙ (bit-of-set (λ k. hasBit zset (31 - k)) 32 (suc i) (omega arith) ∙ ap (hasBit zset) e)
 
 turned-unmarked : (zset : ℕ) → hasBit (reverseBits zset / 2) turnBit ≡ false
-turned-unmarked zset = bit-past (reverseBits zset / 2) turnBit turnBit (omega (arith, set-below (λ k. hasBit zset (31 - k)) 32)) (omega arith)
+turned-unmarked zset =
+    bit-past (reverseBits zset / 2) turnBit turnBit (omega (arith, set-below (λ k. hasBit zset (31 - k)) 32)) (omega arith)
 
 straight : (calls zset : ℕ) → hasBit zset turnBit ≡ false → zset2zvec (suc calls) zset ≡ those (hasBit zset) (suc lastZoom)
 unfolding zset2zvec
 straight calls zset e =
-    rw (masked-is zset 31 (omega arith), e) (filter-range (masked zset) 31 ∙ those-same (masked zset) (hasBit zset) 31 (λ i l. masked-is zset i (omega arith)))
+    rw (masked-is zset 31 (omega arith), e)
+    (filter-range (masked zset) 31 ∙ those-same (masked zset) (hasBit zset) 31 (λ i l. masked-is zset i (omega arith)))
 
 pub turned-zooms : (calls zset : ℕ) → zset2zvecRev (suc calls) zset ≡ zoomsOfRev zset
 turned-zooms calls zset =
@@ -75,7 +78,8 @@ hit : (ℕ → ℕ) → List ℕ → ℕ → Bool
 hit place [] i = false
 hit place (z ∷ l) i = eqb i (place z) || hit place l i
 
-fold-hits : (place : ℕ → ℕ) (n : ℕ) → n ≤ 32 → ((z : ℕ) → z ≤ lastZoom → place z < n) → (l : List ℕ) → anyDeeper l ≡ false → (has : ℕ → Bool)
+fold-hits : (place : ℕ → ℕ) (n : ℕ) → n ≤ 32 → ((z : ℕ) → z ≤ lastZoom → place z < n) → (l : List ℕ) → anyDeeper l ≡ false
+    → (has : ℕ → Bool)
     → fold place (setOf has n) l ≡ setOf (λ i. has i || hit place l i) n
 unfolding fold hit anyDeeper
 fold-hits place n w room [] e has = set-same has (λ i. has i || false) n (λ i l. sym (or-false (has i)))
@@ -89,7 +93,8 @@ fold-hits place n w room (z ∷ l) e has =
 
 fold-from-none : (place : ℕ → ℕ) (n : ℕ) → n ≤ 32 → ((z : ℕ) → z ≤ lastZoom → place z < n) → (l : List ℕ) → anyDeeper l ≡ false
     → fold place 0 l ≡ setOf (hit place l) n
-fold-from-none place n w room l e = ap (λ (acc : ℕ). fold place acc l) (sym (set-none (λ i. false) n (λ i k. refl))) ∙ fold-hits place n w room l e (λ i. false)
+fold-from-none place n w room l e =
+    ap (λ (acc : ℕ). fold place acc l) (sym (set-none (λ i. false) n (λ i k. refl))) ∙ fold-hits place n w room l e (λ i. false)
 
 hit-listed : (l : List ℕ) (i : ℕ) → hit (λ z. z) l i ≡ listed l i
 unfolding hit listed
@@ -131,7 +136,8 @@ deeper-append (a ∷ l) m = rw (deeper-append l m) (sym (or-assoc (ltb lastZoom 
 those-shallow : (has : ℕ → Bool) (n : ℕ) → n ≤ suc lastZoom → anyDeeper (those has n) ≡ false
 unfolding those anyDeeper
 those-shallow has zero h = refl
-those-shallow has (suc n) h = deeper-append (those has n) (cond (has n) (n ∷ []) []) ∙ (rw (those-shallow has n (omega arith)) (pick (has n)))
+those-shallow has (suc n) h =
+    deeper-append (those has n) (cond (has n) (n ∷ []) []) ∙ (rw (those-shallow has n (omega arith)) (pick (has n)))
   where
     pick : (b : Bool) → anyDeeper (cond b (n ∷ []) []) ≡ false
     pick true = rw (le-ltb lastZoom n (omega arith))
@@ -141,7 +147,8 @@ pub range-as-rust : (low high : ℕ) → high ≤ lastZoom → zvec2zset (fromTo
 unfolding fromTo
 range-as-rust low high h =
     set-as-rust (fromTo low high) (those-shallow (between low high) (suc high) (omega arith))
-    ∙ set-same (listed (fromTo low high)) (between low high) (suc lastZoom) (λ i l. listed-those (between low high) (suc high) i ∙ pick i (decLt high i))
+    ∙ set-same (listed (fromTo low high)) (between low high) (suc lastZoom)
+    (λ i l. listed-those (between low high) (suc high) i ∙ pick i (decLt high i))
   where
     pick : (i : ℕ) → Dec (high < i) → (ltb i (suc high) && between low high i) ≡ between low high i
     pick i (yes g) = rw (le-ltb i (suc high) (omega arith), lt-leb i high g) (sym (and-false (leb low i)))

@@ -30,7 +30,8 @@ listed-those has (suc n) z =
     place : Dec (z < n) → Dec (n < z) → ((ltb z n && has z) || (has n && eqb z n)) ≡ (ltb z (suc n) && has z)
     place (yes l) g = rw (lt-ltb z n l, lt-ltb z (suc n) (omega arith), ne-eqb z n (λ e. omega arith), and-false (has n)) (or-false (has z))
     place (no l) (yes g) = rw (le-ltb z n (omega arith), le-ltb z (suc n) (omega arith), ne-eqb z n (λ e. omega arith)) (and-false (has n))
-    place (no l) (no g) = let e : z ≡ n = omega arith in rw (e, le-ltb n n (omega arith), lt-ltb n (suc n) (omega arith), eq-eqb n n refl) (and-true (has n))
+    place (no l) (no g) = let e : z ≡ n = omega arith in
+        rw (e, le-ltb n n (omega arith), lt-ltb n (suc n) (omega arith), eq-eqb n n refl) (and-true (has n))
 
 -- ---- there and back
 
@@ -55,7 +56,8 @@ list-back zvec e z =
     pick (no l) = rw (le-ltb z (suc lastZoom) (omega arith)) (sym (listed-shallow zvec z e (omega arith)))
 
 -- the two turned readings count from different bits: a zoom comes back one lower
-pub rev-lower : (zvec : List ℕ) → anyDeeper zvec ≡ false → (z : ℕ) → z ≤ lastZoom → listed (zoomsOfRev (setOfZoomsRev zvec)) z ≡ listed zvec (suc z)
+pub rev-lower : (zvec : List ℕ) → anyDeeper zvec ≡ false → (z : ℕ) → z ≤ lastZoom
+    → listed (zoomsOfRev (setOfZoomsRev zvec)) z ≡ listed zvec (suc z)
 rev-lower zvec e z h =
     let back : turnBit - (lastZoom - z) ≡ suc z = omega arith in
     listed-those (downFrom lastZoom (setOfZoomsRev zvec)) (suc lastZoom) z

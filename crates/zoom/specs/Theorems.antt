@@ -81,7 +81,8 @@ unfolding hasBit those setOf listed
 rev-not-undone = (refl, (refl, (refl, refl)))
 
 -- every zoom comes back one lower, and zoom 0 not at all
-pub rev-one-lower : (zooms : List ℕ) → anyDeeper zooms ≡ false → (z : ℕ) → z ≤ 30 → listed (zoomsOfRev (setOfZoomsRev zooms)) z ≡ listed zooms (suc z)
+pub rev-one-lower : (zooms : List ℕ) → anyDeeper zooms ≡ false → (z : ℕ) → z ≤ 30
+    → listed (zoomsOfRev (setOfZoomsRev zooms)) z ≡ listed zooms (suc z)
 rev-one-lower zooms e z h = rev-lower zooms e z h
 
 -- the bit that `and_zoom` looks for is not the zoom's own: the set of zoom 0 and zoom 0 have nothing in common
@@ -101,7 +102,8 @@ all-zooms = omega (arith, set-of-span 0 lastZoom (suc lastZoom) (omega arith) (o
 -- a single zoom's number is that of the list of it
 pub one-zoom : (z : ℕ) → z ≤ lastZoom → setOfZooms (z ∷ []) ≡ 2 ^ z
 unfolding listed
-one-zoom z h = set-same (listed (z ∷ [])) (λ i. eqb i z) (suc lastZoom) (λ i l. or-false (eqb i z)) ∙ set-of-one z (suc lastZoom) (omega arith)
+one-zoom z h = set-same (listed (z ∷ [])) (λ i. eqb i z) (suc lastZoom) (λ i l. or-false (eqb i z))
+    ∙ set-of-one z (suc lastZoom) (omega arith)
 
 pub one-zoom-rev : (z : ℕ) → z ≤ lastZoom → setOfZoomsRev (z ∷ []) ≡ 2 ^ (turnBit - z)
 unfolding listed

@@ -109,7 +109,8 @@ those-same f g (suc n) h = rw (those-same f g n (λ i l. h i (omega arith)), h n
 
 -- two numbers of n bits with the same bits are one
 pub same-bits : (a b n : ℕ) → a < 2 ^ n → b < 2 ^ n → ((i : ℕ) → i < n → hasBit a i ≡ hasBit b i) → a ≡ b
-same-bits a b n ha hb h = sym (mod-eq-of-lt ha) ∙ (sym (set-of-bits a n) ∙ (set-same (hasBit a) (hasBit b) n h ∙ (set-of-bits b n ∙ mod-eq-of-lt hb)))
+same-bits a b n ha hb h =
+    sym (mod-eq-of-lt ha) ∙ (sym (set-of-bits a n) ∙ (set-same (hasBit a) (hasBit b) n h ∙ (set-of-bits b n ∙ mod-eq-of-lt hb)))
 
 -- the bits of a number are counted by the machine's count
 digit-ones : (d n : ℕ) → d < 2 → length (cond (eqb d 1) (n ∷ []) []) ≡ ones d
@@ -198,7 +199,8 @@ set-of-one z (suc n) h = pick (decLt z n) (set-of-one z n)
         rw (e, eq-eqb z z refl, set-none (λ i. eqb i z) z (λ i k. ne-eqb i z (λ d. omega arith))) (zero-add (2 ^ z))
 
 pub bit-of-power : (z i : ℕ) → hasBit (2 ^ z) i ≡ eqb i z
-bit-of-power z i = ap (λ (x : ℕ). hasBit x i) (sym (set-of-one z (suc (z + i)) (omega arith))) ∙ bit-of-set (λ k. eqb k z) (suc (z + i)) i (omega arith)
+bit-of-power z i = ap (λ (x : ℕ). hasBit x i) (sym (set-of-one z (suc (z + i)) (omega arith)))
+    ∙ bit-of-set (λ k. eqb k z) (suc (z + i)) i (omega arith)
 
 -- a number with one bit more
 pub set-with : (has : ℕ → Bool) (z n : ℕ) → z < n → bitOr (setOf has n) (2 ^ z) ≡ setOf (λ i. has i || eqb i z) n

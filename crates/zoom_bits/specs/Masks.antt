@@ -38,7 +38,8 @@ mask-of a i b e =
     small false = pow-pos (suc i)
 
     bit : (b : Bool) → hasBit a i ≡ b → (k : ℕ) → Dec (k < i) → k < suc i → (hasBit a k && eqb k i) ≡ hasBit (cond b (2 ^ i) 0) k
-    bit true e k (yes l) h = rw (ne-eqb k i (λ d. omega arith), and-false (hasBit a k)) (sym (bit-of-power i k ∙ ne-eqb k i (λ d. omega arith)))
+    bit true e k (yes l) h =
+        rw (ne-eqb k i (λ d. omega arith), and-false (hasBit a k)) (sym (bit-of-power i k ∙ ne-eqb k i (λ d. omega arith)))
     bit true e k (no l) h = let d : k ≡ i = omega arith in rw (d, e, eq-eqb i i refl) (sym (bit-of-power i i ∙ eq-eqb i i refl))
     bit false e k (yes l) h = rw (ne-eqb k i (λ d. omega arith), and-false (hasBit a k)) (sym (no-bits k))
     bit false e k (no l) h = let d : k ≡ i = omega arith in rw (d, e) (sym (no-bits i))

@@ -50,5 +50,6 @@ those-rising has (suc n) j k i h = pick (has n) refl (those-rising has n) h
   where
     pick : (b : Bool) → has n ≡ b → ((j k : ℕ) → j < k → k < length (those has n) → getD (those has n) j 0 < getD (those has n) k 0)
         → k < length (those has (suc n)) → getD (those has (suc n)) j 0 < getD (those has (suc n)) k 0
-    pick true e rising h = rw (those-with has n e) (snoc-rising (those has n) n (those-below has n) rising j k i (rw (those-with has n e) at h))
+    pick true e rising h =
+        rw (those-with has n e) (snoc-rising (those has n) n (those-below has n) rising j k i (rw (those-with has n e) at h))
     pick false e rising h = rw (those-without has n e) (rising j k i (rw (those-without has n e) at h))

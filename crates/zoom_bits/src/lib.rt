@@ -70,7 +70,8 @@ pub fn zooms_into(set: u32, out: &mut [u8]) -> Count
 // The zooms whose bits a set has, in the front of the list.
 pub fn fill(set: u32, out: &mut [u8])
     requires { ⌜ length (those (hasBit set) (suc lastZoom)) ≤ length (now out) ⌝ }
-    ensures { λ _. ⌜ now (out .exit) ≡ those (hasBit set) (suc lastZoom) ++ drop (length (those (hasBit set) (suc lastZoom))) (now (out .entry)) ⌝ }
+    ensures { λ _. ⌜ now (out .exit) ≡ those (hasBit set) (suc lastZoom)
+        ++ drop (length (those (hasBit set) (suc lastZoom))) (now (out .entry)) ⌝ }
 {
     let mut k: usize = 0;
     let mut z: u8 = 0;

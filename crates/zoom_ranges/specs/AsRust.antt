@@ -119,7 +119,8 @@ finish : (zset : ℕ) (w : Walk) → Walked zset 29 w → (b : Bool) → inRun z
 finish zset w k true e =
     rw (k .shut, e) (
       map-append (λ (r : ZoomRange). r .min) (w .ranges) (rangeOf (w .min) (w .max) ∷ []) ∙ (rw e at (k .lows)),
-      rw (ends-here zset 29 e (after-all zset), ← k .highs, ← k .last e) (map-append (λ (r : ZoomRange). r .max) (w .ranges) (rangeOf (w .min) (w .max) ∷ [])),
+      rw (ends-here zset 29 e (after-all zset), ← k .highs, ← k .last e)
+          (map-append (λ (r : ZoomRange). r .max) (w .ranges) (rangeOf (w .min) (w .max) ∷ [])),
     )
 finish zset w k false e =
     rw (k .shut, e) (

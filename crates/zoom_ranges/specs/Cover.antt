@@ -51,7 +51,8 @@ spread-longer (x ∷ []) [] b h below =
     rw (from-to-more x b (omega (arith, below 0 (omega arith))), append-nil (fromTo x b ++ (suc b ∷ [])), append-nil (fromTo x b)) refl
 spread-longer (x ∷ w ∷ s) [] b h below = absurd (omega arith)
 spread-longer (x ∷ s) (y ∷ e) b h below =
-    rw (spread-longer s e b (omega arith) (λ k l. below (suc k) (omega arith))) (sym (append-assoc (fromTo x y) (spread s (e ++ (b ∷ []))) (suc b ∷ [])))
+    rw (spread-longer s e b (omega arith) (λ k l. below (suc k) (omega arith)))
+    (sym (append-assoc (fromTo x y) (spread s (e ++ (b ∷ []))) (suc b ∷ [])))
 
 -- what the runs hold up to n, with the run that is open there ended at n
 heldTo : ℕ → ℕ → List ℕ
@@ -71,7 +72,8 @@ next zset n true ea false eb i =
     (rw ea at i)
 next zset n false ea true eb i =
     rw (starts-here zset n ea eb, ends-outside zset n ea, eb, those-with (inRun zset) (suc n) eb)
-    (spread-with (those (runStarts zset) (suc n)) (those (runEnds zset) n) (suc n) (open-run zset n ∙ (rw ea (add-zero (length (those (runEnds zset) n)))))
+    (spread-with (those (runStarts zset) (suc n)) (those (runEnds zset) n) (suc n)
+    (open-run zset n ∙ (rw ea (add-zero (length (those (runEnds zset) n)))))
     ∙ ap (λ (l : List ℕ). l ++ (suc n ∷ [])) (rw append-nil at (rw ea at i)))
 next zset n false ea false eb i =
     rw (starts-outside zset n eb, ends-outside zset n ea, eb, those-without (inRun zset) (suc n) eb)

@@ -55,13 +55,15 @@ edge true y true h = rw (h refl)
 
 end-plain : (zset i : ℕ) → runEnds zset i ≡ inRun zset i && not (inRun zset (suc i))
 unfolding runEnds
-end-plain zset i = edge (inRun zset i) (inRun zset (suc i)) (eqb i lastRun) (λ e. run-ended zset (suc i) (omega (arith, eqb-true i lastRun e)))
+end-plain zset i = edge (inRun zset i) (inRun zset (suc i)) (eqb i lastRun)
+    (λ e. run-ended zset (suc i) (omega (arith, eqb-true i lastRun e)))
 
 start-plain : (zset i : ℕ) → runStarts zset (suc i) ≡ inRun zset (suc i) && not (inRun zset i)
 unfolding runStarts
 start-plain zset i =
     let e : suc i - 1 ≡ i = omega arith in
-    rw e (edge (inRun zset (suc i)) (inRun zset i) (eqb (suc i) firstRun) (λ f. run-unstarted zset i (omega (arith, eqb-true (suc i) firstRun f))))
+    rw e (edge (inRun zset (suc i)) (inRun zset i) (eqb (suc i) firstRun)
+    (λ f. run-unstarted zset i (omega (arith, eqb-true (suc i) firstRun f))))
 
 pub start-zero : (zset : ℕ) → runStarts zset 0 ≡ inRun zset 0
 unfolding runStarts
@@ -88,16 +90,19 @@ beside zset has x h =
     (set-below has (suc lastZoom))
     (λ i l.
     bit-and (runBits zset) (bitXor (runBits zset) x) i
-    ∙ (rw (bit-xor (runBits zset) x i, run-bit zset i) (and-xor (inRun zset i) (hasBit x i)) ∙ (h i ∙ sym (bit-of-set has (suc lastZoom) i l))))
+    ∙ (rw (bit-xor (runBits zset) x i, run-bit zset i) (and-xor (inRun zset i) (hasBit x i))
+    ∙ (h i ∙ sym (bit-of-set has (suc lastZoom) i l))))
 
 pub run-ends-are : (zset : ℕ) → bitAnd (runBits zset) (bitXor (runBits zset) (runBits zset / 2)) ≡ setOf (runEnds zset) (suc lastZoom)
-run-ends-are zset = beside zset (runEnds zset) (runBits zset / 2) (λ i. rw (bit-half (runBits zset) i, run-bit zset (suc i)) (sym (end-plain zset i)))
+run-ends-are zset = beside zset (runEnds zset) (runBits zset / 2)
+    (λ i. rw (bit-half (runBits zset) i, run-bit zset (suc i)) (sym (end-plain zset i)))
 
 start-at : (zset i : ℕ) → (inRun zset i && not (hasBit (runBits zset * 2) i)) ≡ runStarts zset i
 start-at zset zero = rw (bit-even (runBits zset), and-true (inRun zset 0)) (sym (start-zero zset))
 start-at zset (suc i) = rw (bit-double (runBits zset) i, run-bit zset i) (sym (start-plain zset i))
 
-pub run-starts-are : (zset : ℕ) → bitAnd (runBits zset) (bitXor (runBits zset) (runBits zset * 2 % 2 ^ 32)) ≡ setOf (runStarts zset) (suc lastZoom)
+pub run-starts-are : (zset : ℕ)
+    → bitAnd (runBits zset) (bitXor (runBits zset) (runBits zset * 2 % 2 ^ 32)) ≡ setOf (runStarts zset) (suc lastZoom)
 run-starts-are zset =
     let small : runBits zset * 2 < 2 ^ 32 = omega (arith, set-below (inRun zset) (suc lastZoom)) in
     rw (mod-eq-of-lt small) (beside zset (runStarts zset) (runBits zset * 2) (start-at zset))
@@ -113,7 +118,8 @@ starts-inside zset n a = those-without (runStarts zset) (suc n) (start-plain zse
 pub starts-outside : (zset n : ℕ) → inRun zset (suc n) ≡ false → those (runStarts zset) (suc (suc n)) ≡ those (runStarts zset) (suc n)
 starts-outside zset n b = those-without (runStarts zset) (suc n) (start-plain zset n ∙ rw b)
 
-pub ends-here : (zset n : ℕ) → inRun zset n ≡ true → inRun zset (suc n) ≡ false → those (runEnds zset) (suc n) ≡ those (runEnds zset) n ++ (n ∷ [])
+pub ends-here : (zset n : ℕ) → inRun zset n ≡ true → inRun zset (suc n) ≡ false
+    → those (runEnds zset) (suc n) ≡ those (runEnds zset) n ++ (n ∷ [])
 ends-here zset n a b = those-with (runEnds zset) n (end-plain zset n ∙ rw (a, b))
 
 pub ends-inside : (zset n : ℕ) → inRun zset (suc n) ≡ true → those (runEnds zset) (suc n) ≡ those (runEnds zset) n
