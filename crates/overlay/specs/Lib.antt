@@ -1,0 +1,5 @@
+pub mod Overlay
+pub mod Runs
+pub mod Parts
+pub mod Joined
+pub mod Left
