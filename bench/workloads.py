@@ -16,7 +16,7 @@ import os
 import sys
 
 # How many mirror images there are of a list of each size.
-IMAGES = {1: 1024, 16: 512, 256: 64, 4096: 8, 65536: 1}
+IMAGES = {1: 1024, 2: 1024, 4: 1024, 8: 1024, 16: 512, 256: 64, 4096: 8, 65536: 1}
 MASK = (1 << 64) - 1
 
 
@@ -150,15 +150,34 @@ def full(n):
     return v
 
 
+def meet(a, b):
+    """Whether a tile of b is in list a, or an ancestor of it is."""
+    tiles = set(a)
+    return any((z - up, x >> up, y >> up) in tiles for z, x, y in b for up in range(z + 1))
+
+
+def first_to_meet(make, n, seed):
+    """The first pair, from this seed on, that has ground in common: of short lists many have none."""
+    while True:
+        a, b = make(n, seed)
+        if meet(a, b):
+            return [a, b]
+        seed += 2
+
+
 def overlap(n):
     """Two ragged cities at zoom 16 with one tile in eight missing, half over each other."""
+    return first_to_meet(cities, n, 4000 + n)
+
+
+def cities(n, seed):
     half = n // 2
     r = 1
     while r * r * 3 < half * 3:
         r += 1
     lists = []
     for k in (0, 1):
-        rng = Rng(4000 + n + k)
+        rng = Rng(seed + k)
         raw = [t for t in blob(half * 3, 16, 33188 + k * r, 22552 + k * r // 3, 21 + k) if rng.below(8)]
         lists.append(thin(settle(raw), half, rng))
     return lists
@@ -166,8 +185,12 @@ def overlap(n):
 
 def carve(n):
     """A: tiles of zoom 10 to 12. B: fifteen times as many of zoom 16 to 18, four in five of them inside A."""
-    rng = Rng(5000 + n)
-    na = n // 16
+    return first_to_meet(holes, n, 5000 + n)
+
+
+def holes(n, seed):
+    rng = Rng(seed)
+    na = max(1, n // 16)
     raw = set()
     while len(raw) < na * 2:
         up = rng.below(3)
@@ -239,14 +262,16 @@ def main():
         return name
 
     for n, k in IMAGES.items():
-        for make in (city, city_ordered, sparse, nested, full):
+        # A zoom has 1, 4, 16, .. tiles: no other size fills one.
+        fills = n.bit_length() % 2 == 1
+        for make in (city, city_ordered, sparse, nested, full) if fills else (city, city_ordered, sparse, nested):
             v = make(n)
             assert len(v) == n
             name = make.__name__
             v = images(v, n, 7000, make is city_ordered)
             manifest.append(f"settle {name} {n} {k} " + write(f"{name}-{n}.u64", v))
         # Two lists of one entry together would be one list.
-        for make in (overlap, carve, halves) if n > 1 else ():
+        for make in () if n == 1 else (overlap, carve, halves) if fills else (overlap, carve):
             a, b = make(n)
             assert len(a) + len(b) == n and a == settle(a) and b == settle(b)
             name = make.__name__

@@ -1,4 +1,4 @@
-// Times the proved library on the workloads, through its C header.
+// Times the proved library on the workloads, through its C header, under the name PEER.
 #include "../../bindings/c/noripliers.h"
 #include "calls.hpp"
 
@@ -63,7 +63,7 @@ struct ProvedCalls {
 // An operation on the lists of a job, given the index of the list and the memory lent.
 template <class Call>
 static void run(const Job& j, const char* op, Call call) {
-  run_list("proved", j, op, "list", out.data(), [&](size_t i, u64* o) {
+  run_list(PEER, j, op, "list", out.data(), [&](size_t i, u64* o) {
     u64 n;
     u8 r = call(i, o, &n);
     return counted(r, n);
@@ -83,7 +83,7 @@ int main(int argc, char** argv) {
       run(j, "common", [&](size_t i, u64* o, u64* n) { return nori_common_part(j.a(i), j.na, j.b(i), j.nb, o, places, n); });
       run(j, "minus", [&](size_t i, u64* o, u64* n) { return nori_difference(j.a(i), j.na, j.b(i), j.nb, o, places, n); });
     } else {
-      time_calls("proved", j, ProvedCalls{});
+      time_calls(PEER, j, ProvedCalls{});
     }
   }
 }
