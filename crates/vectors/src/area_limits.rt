@@ -1,8 +1,4 @@
 // Refusal 6 of union, common part, difference and the test of a settled list: the longest lists that they take, and one entry more.
-use crate::tally;
-use crate::tally::Tally;
-use crate::text;
-use crate::text::Text;
 use errors::BoolAnswer;
 use errors::Count;
 use errors::U64Answer;
@@ -10,6 +6,10 @@ use replay::entries;
 use replay::entries::BLANK;
 use replay::lists;
 use replay::parts;
+use vectors_lines::tally;
+use vectors_lines::tally::Tally;
+use vectors_lines::text;
+use vectors_lines::text::Text;
 
 // Places enough for two lists of 65,537 entries.
 const ROOM: usize = 131074;
@@ -58,9 +58,9 @@ fn called(before: Tally, named: &[u64], more: &[u64]) -> Tally {
     t = longest(t, b"difference", Work::Difference, most, &[], 0);
     t = too_long(t, b"difference", Work::Difference, more);
     tally::asked(b"are 65536 entries settled");
-    t = tally::told(t, b"yes", tested(settled::is_settled(most)));
+    t = tally::told(t, b"yes", tested(area::is_settled(most)));
     tally::asked(b"are 65537 entries settled");
-    tally::told(t, b"refusal 6", tested(settled::is_settled(more)))
+    tally::told(t, b"refusal 6", tested(area::is_settled(more)))
 }
 
 // A list with itself, both as long as can be. These tiles are to be left, then 0 up to n places.

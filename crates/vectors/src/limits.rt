@@ -1,32 +1,16 @@
-// The plates of document 01 that are limits: of a key's digits, and of a list's entries.
-use crate::tally;
-use crate::tally::Tally;
-use crate::text;
-use crate::text::Text;
+// The plate of document 01 that is the limit of a list's entries.
 use errors::Count;
 use tile::OptionU8;
-use tile::TileAnswer;
-
-pub fn keys(before: Tally) -> Tally {
-    let key = [b'3'; 30];
-    tally::source(b"Document 01, Plates");
-    tally::asked(b"29 digits");
-    let t = tally::told(before, b"accepted", read(quadkey::quadkey2xyz(&key[..29])));
-    tally::asked(b"30 digits");
-    tally::told(t, b"refusal 4", read(quadkey::quadkey2xyz(&key)))
-}
-
-fn read(answer: TileAnswer) -> Text {
-    match answer {
-        TileAnswer::Found(_) => text::put(text::none(), b"accepted"),
-        TileAnswer::Refused(why) => text::refusal(text::none(), why),
-    }
-}
+use vectors_lines::tally;
+use vectors_lines::tally::Tally;
+use vectors_lines::text;
+use vectors_lines::text::Text;
 
 // Lists of nothing but the root.
 pub fn lists(before: Tally) -> Tally {
     let tiles = [root(); 65537];
     let mut list = [0u64; 65537];
+    tally::source(b"Document 01, Plates");
     tally::asked(b"65536 entries");
     let most = merge::simplify(&tiles[..65536], OptionU8::None, &mut list);
     let t = tally::told(before, b"accepted", settled(most));

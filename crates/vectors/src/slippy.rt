@@ -1,14 +1,14 @@
 // The OpenStreetMap wiki's page "Slippy map tilenames", as far as it needs no sine: how many tiles a zoom has, the edges of the map, tiles
 // under and above a tile, and rows counted from the bottom as TMS does.
-use crate::tally;
-use crate::tally::Tally;
-use crate::text;
-use crate::text::Text;
 use fns::LimitsAnswer;
 use tile::OptionU8;
 use tile_zbox::BoxAnswer;
 use tile_zbox::ExtentAnswer;
 use tile_zbox::TileZBox;
+use vectors_lines::tally;
+use vectors_lines::tally::Tally;
+use vectors_lines::text;
+use vectors_lines::text::Text;
 
 pub fn zoom_levels(before: Tally) -> Tally {
     let mut t = before;

@@ -1,13 +1,13 @@
 // The page "Bing Maps Tile System": levels of detail, tile coordinates and quadkeys.
-use crate::tally;
-use crate::tally::Tally;
-use crate::text;
-use crate::text::Text;
 use errors::Count;
 use errors::U32Answer;
 use fns::LimitsAnswer;
 use tile::OptionU8;
 use tile::TileAnswer;
+use vectors_lines::tally;
+use vectors_lines::tally::Tally;
+use vectors_lines::text;
+use vectors_lines::text::Text;
 
 // A tile is 256 pixels wide.
 const PIXELS: u64 = 256;

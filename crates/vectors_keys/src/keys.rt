@@ -1,8 +1,10 @@
-// The calls that document 01 adds to keys: a part of the caller's own key, and beside it the number by which it is refused.
-use crate::tally;
-use crate::tally::Tally;
-use crate::text;
-use crate::text::Text;
+// What document 01 says of keys: the calls that it adds, a part of the caller's own key and beside it the number by which it is refused,
+// and the limit of a key's digits.
+use tile::TileAnswer;
+use vectors_lines::tally;
+use vectors_lines::tally::Tally;
+use vectors_lines::text;
+use vectors_lines::text::Text;
 
 const LONG: [u8; 30] = [b'3'; 30];
 
@@ -60,4 +62,20 @@ fn part(refused: u8, bytes: &[u8]) -> Text {
         return text::put(text::none(), b"-");
     }
     text::put(text::none(), bytes)
+}
+
+pub fn digits(before: Tally) -> Tally {
+    let key = LONG;
+    tally::source(b"Document 01, Plates");
+    tally::asked(b"29 digits");
+    let t = tally::told(before, b"accepted", read(quadkey::quadkey2xyz(&key[..29])));
+    tally::asked(b"30 digits");
+    tally::told(t, b"refusal 4", read(quadkey::quadkey2xyz(&key)))
+}
+
+fn read(answer: TileAnswer) -> Text {
+    match answer {
+        TileAnswer::Found(_) => text::put(text::none(), b"accepted"),
+        TileAnswer::Refused(why) => text::refusal(text::none(), why),
+    }
 }

@@ -1,10 +1,10 @@
--- `vectors::pictures::walked` is safe and ends: x grows to the end of the row.
+-- `vectors_keys::pictures::walked` is safe and ends: x grows to the end of the row.
 use Prim.Native.Nat.{_-_, _≤_}
 use native.Mathlib.Omega.{arith}
 use borrow.Author.Tests.{ltb-true}
 use borrow.Author.Needs.{needs}
-use Rattle.vectors.proofs.pictures.walked.Statement.{statement}
-use Rattle.vectors.proofs.pictures.walked.Tie as tie
+use Rattle.vectors_keys.proofs.pictures.walked.Statement.{statement}
+use Rattle.vectors_keys.proofs.pictures.walked.Tie as tie
 
 abbrev Inv-loop : tie.InvT-loop
 Inv-loop level y shown row₀ end x₀ row x = x ≤ end

@@ -1,11 +1,11 @@
--- `vectors::text::put` is safe and ends: i stays within the bytes.
+-- `vectors_lines::text::put` is safe and ends: i stays within the bytes.
 use Prim.Native.Nat.{_-_, _≤_}
 use native.Mathlib.Omega.{arith}
 use lib.ListN.{length}
 use borrow.Author.Tests.{ltb-true}
 use borrow.Author.Needs.{needs}
-use Rattle.vectors.proofs.text.put.Statement.{statement}
-use Rattle.vectors.proofs.text.put.Tie as tie
+use Rattle.vectors_lines.proofs.text.put.Statement.{statement}
+use Rattle.vectors_lines.proofs.text.put.Tie as tie
 
 abbrev Inv-loop : tie.InvT-loop
 Inv-loop more all₀ i₀ all i = i ≤ length more

@@ -1,12 +1,12 @@
 // The pictures of the page "Bing Maps Tile System" that show the quadkeys of levels 1, 2 and 3, row by row: from tile to key, and from key
 // to tile.
-use crate::tally;
-use crate::tally::Tally;
-use crate::text;
-use crate::text::Text;
 use replay::parts;
 use tile::Tile;
 use tile::TileAnswer;
+use vectors_lines::tally;
+use vectors_lines::tally::Tally;
+use vectors_lines::text;
+use vectors_lines::text::Text;
 
 pub fn levels_1_and_2(before: Tally) -> Tally {
     let mut t = before;

@@ -1,0 +1,22 @@
+// Checks the library against the Bing Maps page's examples and what document 01 says of keys: a line for each says what the source says
+// and what the library gives. The last line counts them, and those that differ.
+mod bing;
+mod keys;
+mod pictures;
+
+use vectors_lines::tally;
+
+fn main() {
+    let mut t = tally::none();
+    t = bing::levels(t);
+    t = bing::tile_3_5(t);
+    t = bing::children_of_2(t);
+    t = bing::children_of_13(t);
+    t = bing::leading_parts(t);
+    t = pictures::levels_1_and_2(t);
+    t = pictures::level_3(t);
+    t = keys::ancestors(t);
+    t = keys::shared(t);
+    t = keys::digits(t);
+    tally::end(t);
+}
