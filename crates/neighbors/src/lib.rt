@@ -175,8 +175,8 @@ fn square(seam: Seam, k: usize) -> u32
     requires { ⌜ k < 8 ⌝ }
     ensures { λ r. ⌜ r ≡ getD (orderOf seam) k 0 ⌝ }
 {
-    match seam {
-        Seam::Cut => AROUND[k] as u32,
-        Seam::Wrapped => AROUND_WRAPPED[k] as u32,
+    if let Seam::Wrapped = seam {
+        return AROUND_WRAPPED[k] as u32;
     }
+    AROUND[k] as u32
 }

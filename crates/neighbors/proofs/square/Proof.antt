@@ -6,39 +6,18 @@ use Rattle.neighbors.specs.Laws.{one-of-nine}
 use Rattle.neighbors.proofs.square.Statement.{statement}
 use Rattle.neighbors.proofs.square.Tie as tie
 
-enum-told : tie.Need-enum-told
-enum-told c = search needs
+wrapped-small : tie.Need-cast-result
+wrapped-small c = omega (arith, one-of-nine Wrapped (c .before .before .args .k) (c .before .before .pre))
 
-array-read-result : tie.Need-array-read-result
-array-read-result c = search needs
+wrapped : tie.Need-returns
+wrapped c = rw (c .enum-told .given .1)
 
-cast-result : tie.Need-cast-result
-cast-result c = omega (arith, one-of-nine Cut (c .before .before .args .k) (c .before .before .pre))
+cut-small : tie.Need-cast-result-2
+cut-small c = omega (arith, one-of-nine Cut (c .before .before .args .k) (c .before .before .pre))
 
-enum-told-2 : tie.Need-enum-told-2
-enum-told-2 c = search needs
-
-array-read-result-2 : tie.Need-array-read-result-2
-array-read-result-2 c = search needs
-
-cast-result-2 : tie.Need-cast-result-2
-cast-result-2 c = omega (arith, one-of-nine Wrapped (c .before .before .args .k) (c .before .before .pre))
-
-returns : tie.Need-returns
-returns c = rw (c .enum-told .given .1)
-
-returns-2 : tie.Need-returns-2
-returns-2 c = rw (c .enum-told2 .given .1)
+cut : tie.Need-returns-2
+cut c = rw (c .enum-told2 .given .1)
 
 pub square-spec : {M : Type 1} → statement M
 square-spec =
-    tie.close
-    (tie.spec
-    enum-told
-    array-read-result
-    cast-result
-    enum-told-2
-    array-read-result-2
-    cast-result-2
-    returns
-    returns-2)
+    tie.close (tie.spec (λ c. search needs) (λ c. search needs) wrapped-small wrapped (λ c. search needs) (λ c. search needs) cut-small cut)
