@@ -15,7 +15,7 @@ ghost use Rattle.form_stream.specs.Stream.{said};
 pub fn check(line: &[u8]) -> u8
     ensures { λ r. ⌜ r ≡ lineRefusal (now (line .entry)) ⌝ }
 {
-    c_give::check(form::check(line))
+    errors::check_number(form::check(line))
 }
 
 pub fn area(line: &[u8], out: &mut [u64], count: &mut u64) -> u8

@@ -1,23 +1,13 @@
 // Answers that more than one crate hands on: the number comes back, the value goes behind the pointers.
 use errors::BoolAnswer;
-use errors::Check;
 use errors::Count;
 use errors::U32Answer;
 use errors::U64Answer;
 use tile::TileAnswer;
 ghost use mathlib.Core.Path.{_≡_};
-ghost use Rattle.errors.specs.Cases.{boolCase, checkNumber, countCase, u32Case, u64Case};
+ghost use Rattle.errors.specs.Cases.{boolCase, countCase, u32Case, u64Case};
 ghost use Rattle.c_give.specs.Exported.{answered, asByte, never};
 ghost use Rattle.tile.specs.OnMap.{tileAt, tileCase};
-
-pub fn check(answer: Check) -> u8
-    ensures { λ r. ⌜ r ≡ checkNumber answer ⌝ }
-{
-    match answer {
-        Check::Fine => 0,
-        Check::Refused(why) => errors::number(why),
-    }
-}
 
 pub fn count(answer: Count, count: &mut u64) -> u8
     ensures { λ r. ⌜ answered r (now (count .exit)) ≡ countCase answer ⌝ }

@@ -29,7 +29,7 @@ pub fn quadkey2xyz(key: &[u8], tx: &mut u32, ty: &mut u32, tz: &mut u8) -> u8
 pub fn check(key: &[u8]) -> u8
     ensures { λ r. ⌜ r ≡ keyRefusal (now (key .entry)) ⌝ }
 {
-    c_give::check(quadkey::check(key))
+    errors::check_number(quadkey::check(key))
 }
 
 pub fn is_quadkey(key: &[u8], told: &mut u8) -> u8

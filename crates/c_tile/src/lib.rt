@@ -17,7 +17,7 @@ pub fn try_new(x: u32, y: u32, z: u8, tx: &mut u32, ty: &mut u32, tz: &mut u8) -
 pub fn check(x: u32, y: u32, z: u8) -> u8
     ensures { λ r. ⌜ r ≡ tileRefusal x y z ⌝ }
 {
-    c_give::check(tile::check(x, y, z))
+    errors::check_number(tile::check(x, y, z))
 }
 
 pub fn flip(x: u32, y: u32, z: u8, tx: &mut u32, ty: &mut u32, tz: &mut u8) -> u8

@@ -37,7 +37,7 @@ pub fn new(
 pub fn check(zoom: u8, minx: u32, maxx: u32, miny: u32, maxy: u32) -> u8
     ensures { λ r. ⌜ r ≡ boxRefusal (boxAt zoom minx maxx miny maxy) ⌝ }
 {
-    c_give::check(zbox(zoom, minx, maxx, miny, maxy).check())
+    errors::check_number(zbox(zoom, minx, maxx, miny, maxy).check())
 }
 
 pub fn from_tile(

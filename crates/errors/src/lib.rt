@@ -1,6 +1,7 @@
 // The refusals of document 01, "Who can cause a refusal": a case for each number, and the number of each case.
 ghost use mathlib.Core.Path.{_≡_};
 ghost use Rattle.errors.specs.Answer.{numberOf};
+ghost use Rattle.errors.specs.Cases.{checkNumber};
 ghost use Rattle.errors.specs.Turn.{firstOf, turnOf};
 
 pub enum Refusal {
@@ -85,6 +86,16 @@ pub fn number(why: Refusal) -> u8
         Refusal::LineLength => 13,
         Refusal::Brackets => 14,
         Refusal::NoForm => 15,
+    }
+}
+
+// The number of a test: 0 where nothing is refused.
+pub fn check_number(r: Check) -> u8
+    ensures { λ n. ⌜ n ≡ checkNumber r ⌝ }
+{
+    match r {
+        Check::Fine => 0,
+        Check::Refused(why) => number(why),
     }
 }
 

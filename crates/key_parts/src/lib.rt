@@ -22,7 +22,7 @@ pub fn ancestor_key<'a>(key: &'a [u8], n: usize) -> &'a [u8]
 pub fn ancestor_key_refusal(key: &[u8], n: usize) -> u8
     ensures { λ r. ⌜ r ≡ ancestorRefusal (now (key .entry)) n ⌝ }
 {
-    number(ancestor_check(key, n))
+    errors::check_number(ancestor_check(key, n))
 }
 
 fn ancestor_check(key: &[u8], n: usize) -> Check
@@ -32,15 +32,6 @@ fn ancestor_check(key: &[u8], n: usize) -> Check
         return Check::Refused(Refusal::NoRelative);
     }
     check(key)
-}
-
-fn number(r: Check) -> u8
-    ensures { λ n. ⌜ n ≡ checkNumber r ⌝ }
-{
-    match r {
-        Check::Fine => 0,
-        Check::Refused(why) => errors::number(why),
-    }
 }
 
 // The key of the deepest ancestor that two keys share: a part of the first key. Empty where it is refused.
@@ -61,7 +52,7 @@ pub fn shared_key<'a, 'b>(a: &'a [u8], b: &'b [u8]) -> &'a [u8]
 pub fn shared_key_refusal(a: &[u8], b: &[u8]) -> u8
     ensures { λ r. ⌜ r ≡ sharedRefusal (now (a .entry)) (now (b .entry)) ⌝ }
 {
-    number(shared_check(a, b))
+    errors::check_number(shared_check(a, b))
 }
 
 // The lowest number over both keys: lengths first, then bytes.
