@@ -4,7 +4,5 @@ pub mod Grounds
 pub mod Settled
 pub mod Pairs
 pub mod Left
-pub mod Work
-pub mod Tests
-pub mod Runs
-pub mod Ends
+pub mod Passed
+pub mod Doors

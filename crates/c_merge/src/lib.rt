@@ -65,5 +65,5 @@ pub fn difference(a: &[u64], b: &[u64], out: &mut [u64], count: &mut u64) -> u8
 pub fn is_settled(list: &[u64], settled: &mut u8) -> u8
     ensures { λ r. ⌜ answered r (now (settled .exit)) ≡ asByte (isSettledOf (now (list .entry))) ⌝ }
 {
-    c_give::told(settled::is_settled(list), settled)
+    c_give::told(area::is_settled(list), settled)
 }

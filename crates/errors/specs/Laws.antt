@@ -64,6 +64,11 @@ answer-refused why (suc n) none v e = sym (ap (λ r. r .number) e)
 pub never-zero : (why : Refusal) → numberOf why ≡ 0 → ⊥
 never-zero why e = omega (arith, positive why .1)
 
+-- a chain in two parts
+pub else-assoc : (n m k : ℕ) → n else (m else k) ≡ (n else m) else k
+else-assoc zero m k = refl
+else-assoc (suc n) m k = refl
+
 pub else-none : (n : ℕ) → n else 0 ≡ n
 else-none zero = refl
 else-none (suc n) = refl

@@ -1,4 +1,4 @@
 pub mod Merge
 pub mod Gives
-pub mod Laws
+pub mod Doors
 pub mod Theorems

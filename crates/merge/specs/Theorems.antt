@@ -18,14 +18,13 @@ use Rattle.quadtree.specs.Locations.{map-tile}
 use Rattle.tile_list.specs.List.{listed, entriesInOrder, filled}
 use Rattle.tile_set.specs.Holds.{Holds}
 use Rattle.tile_set.specs.InOrder.{Ordered, in-order-of, in-order-in, in-order-ordered}
-use Rattle.tile_set.specs.Merged.{Within, is-false, bool-ext, merged-within, passes-within}
+use Rattle.tile_set.specs.Merged.{Within, is-false, bool-ext, joins-in, merged-within, passes-within}
 use Rattle.tile_set.specs.Set.{inOrder, joins, whole, merged, uncovered, simplified, simplifiedV1}
 use Rattle.tile_set.specs.Simplified.{simplified-within}
 use Rattle.tile_set.specs.Theorems.{Covered, merge-keeps-ground, simplify-keeps-ground, simplify-still, simplify-v1-keeps-ground}
 use Rattle.tile_set.specs.Theorems.{simplify-v1-still, merge-changes, merge-takes, settled-at-0}
 use Rattle.tile_set.specs.Uncovered.{uncovered-within}
-use Rattle.merge.specs.Laws.{joins-in}
-use Rattle.merge.specs.Merge.{mergeChanges}
+use Rattle.work.specs.Work.{mergeChanges}
 
 -- "Answers are in the order of `Tile`'s `cmp`: z, x, y": the tiles of an answer, each once, in order; just those of the set
 pub an-answer-is-in-order : (S : Tile → Bool) → (entriesInOrder S ≡ entriesOf (inOrder maxZoom S)) × Ordered (inOrder maxZoom S)

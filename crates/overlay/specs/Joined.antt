@@ -7,7 +7,7 @@ use Prim.Native.Nat.{ℕ, _+_, _≤_}
 use native.Mathlib.Omega.{arith}
 use lib.ListN.{length, take, drop}
 use Rattle.common.specs.Common.{Common}
-use Rattle.overlay.specs.Overlay.{Parted, unionSet, commonSet}
+use Rattle.overlay.specs.Overlay.{TwoSets, unionSet, commonSet}
 use Rattle.overlay.specs.Parts.{restFrom, rest-all, both-runs, both-lengths}
 use Rattle.overlay.specs.Runs.{runs-numbers, runs-by}
 use Rattle.quadtree.specs.Lists.{TileNumbers}
@@ -22,7 +22,7 @@ use Rattle.tile_list.specs.Finish.{Listed}
 use Rattle.tile_list.specs.Laws.{sort-numbers}
 use Rattle.tile_list.specs.List.{named}
 
-module _ {locations : List ℕ} {n : ℕ} (p : Parted locations n) where
+module _ {locations : List ℕ} {n : ℕ} (p : TwoSets locations n) where
   abbrev first : List ℕ
   first = take n locations
 

@@ -12,7 +12,7 @@ use Rattle.difference.specs.Bound.{without-length}
 use Rattle.difference.specs.Left.{without}
 use Rattle.difference.specs.Order.{without-runs}
 use Rattle.difference.specs.Walk.{sets-front}
-use Rattle.overlay.specs.Overlay.{Parted, leftSet, leftEntries, LeftIn}
+use Rattle.overlay.specs.Overlay.{TwoSets, leftSet, leftEntries, LeftIn}
 use Rattle.overlay.specs.Parts.{restFrom, rest-all, first-length}
 use Rattle.overlay.specs.Runs.{runs-numbers, runs-count}
 use Rattle.quadtree.specs.Lists.{TileNumbers}
@@ -28,7 +28,7 @@ module _ (a b : List ℕ) (r : Runs a) where
   pub left-bound : Runs b → length (leftEntries a b) ≤ length a + 3 * (maxZoom * length b)
   left-bound s = omega (arith, left-count, without-length a r b s)
 
-module _ {locations : List ℕ} {n : ℕ} (p : Parted locations n) where
+module _ {locations : List ℕ} {n : ℕ} (p : TwoSets locations n) where
   abbrev entries : List ℕ
   entries = leftEntries (take n locations) (drop n locations)
 

@@ -14,7 +14,7 @@ use Rattle.tile_list.specs.List.{named, entriesInOrder}
 use Rattle.tile_set.specs.Set.{simplified}
 
 -- the locations of two settled sets, the first n of them the first one's
-pub record Parted (locations : List ℕ) (n : ℕ) : Type 0 where
+pub record TwoSets (locations : List ℕ) (n : ℕ) : Type 0 where
   pub within : n ≤ length locations
   pub first : Runs (take n locations)
   pub second : Runs (drop n locations)

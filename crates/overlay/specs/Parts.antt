@@ -5,7 +5,7 @@ use Prim.Native.Nat.{ℕ, _+_, _-_}
 use native.Mathlib.Omega.{arith}
 use lib.ListN.{length, take, drop, length-drop}
 use lib.Seq.{take-all, length-take-le}
-use Rattle.overlay.specs.Overlay.{Parted}
+use Rattle.overlay.specs.Overlay.{TwoSets}
 use Rattle.quadtree.specs.Locations.{Runs}
 
 abbrev pub restFrom : ℕ → List ℕ → List ℕ
@@ -14,7 +14,7 @@ restFrom n locations = take (length locations - n) (drop n locations)
 pub rest-all : (n : ℕ) (locations : List ℕ) → restFrom n locations ≡ drop n locations
 rest-all n locations = take-all (length locations - n) (drop n locations) (omega (arith, length-drop n locations))
 
-module _ {locations : List ℕ} {n : ℕ} (p : Parted locations n) where
+module _ {locations : List ℕ} {n : ℕ} (p : TwoSets locations n) where
   pub first-length : n ≡ length (take n locations)
   first-length = sym (length-take-le n locations (p .within))
 

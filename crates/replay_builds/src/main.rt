@@ -128,7 +128,7 @@ fn is_settled(given: &[u64], want: &[u64]) -> bool {
     let ListArg::Given(n) = args::tiles(given, &mut room) else {
         return false;
     };
-    answers::same_told(settled::is_settled(parts::numbers(&room, 0, n)), want)
+    answers::same_told(area::is_settled(parts::numbers(&room, 0, n)), want)
 }
 
 fn work_of(name: &[u8]) -> WorkArg {

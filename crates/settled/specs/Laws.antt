@@ -6,12 +6,7 @@ use Prim.Native.Nat.{ℕ, _≤_, _<_}
 use native.Mathlib.Decide.{decLt}
 use native.Mathlib.Omega.{arith}
 use lib.ListN.{length, getD}
-use borrow.Author.Tests.{lt-ltb, le-ltb}
 use Rattle.bits.specs.Tests.{and-parts, not-true, not-false, allOf, all-in, in-all}
-use Rattle.constants.specs.Limits.{maxEntries}
-use Rattle.errors.specs.Cases.{boolCase}
-use Rattle.errors.specs.declared.BoolAnswer.the-variants.{Told, Refused}
-use Rattle.errors.specs.declared.Refusal.the-variants.{TooMany, NoTile}
 use Rattle.ids.specs.Entry.{entryTile, isEntry}
 use Rattle.quadtree.specs.Lists.{entryKey, TileNumbers, keys-of-tiles}
 use Rattle.quadtree.specs.Numbers.{locationOf, locationTile}
@@ -23,12 +18,12 @@ use Rattle.settle.specs.Stack.{rise-apart}
 use Rattle.sort.specs.Sort.{sortN, Rising}
 use Rattle.tile.specs.declared.Tile.{Tile}
 use Rattle.tile_list.specs.Laws.{named-by, names, keys-named, sort-named, sort-numbers}
-use Rattle.tile_list.specs.List.{named, listed, listRefusal}
+use Rattle.tile_list.specs.List.{named, listed}
 use Rattle.tile_set.specs.Holds.{holds-level, ancestor-holds, holder-is-ancestor}
 use Rattle.tile_set.specs.Merged.{Apart, is-false, bool-ext, whole-all, joins-when, joined-when, joined-joins}
 use Rattle.tile_set.specs.Set.{ancestor, child, whole}
 use Rattle.tile_set.specs.Uncovered.{any-below-of, any-below-in}
-use Rattle.settled.specs.Answers.{Lone, Tested, isSettledOf}
+use Rattle.settled.specs.Answers.{Lone, Tested}
 use Rattle.settled.specs.Order.{locations-rise}
 use Rattle.settled.specs.Settled.{strictlyInOrder, besideAncestor, withSiblings, isSettled}
 use Rattle.settled.specs.Walk.{named-among, at-named}
@@ -162,17 +157,3 @@ module _ (list keys locations : List ℕ) (e : allOf isEntry list ≡ true) (k :
 
     pub tested : Tested list locations r
     tested = record { answer = bool-ext r (isSettled list) forth back; in-order = λ h. sorted; runs = λ h. l .fine h .0 }
-
--- what the call answers: its refusals, in the order of the tests, and the value
-pub too-many : (list : List ℕ) → maxEntries < length list → boolCase (Refused TooMany) ≡ isSettledOf list
-unfolding listRefusal
-too-many list h = rw (lt-ltb _ _ h)
-
-pub no-tile : (list : List ℕ) → length list ≤ maxEntries → false ≡ allOf isEntry list → boolCase (Refused NoTile) ≡ isSettledOf list
-unfolding listRefusal
-no-tile list h e = rw (le-ltb _ _ h, ← e)
-
-pub told : (list : List ℕ) (r : Bool) → length list ≤ maxEntries → true ≡ allOf isEntry list → r ≡ isSettled list
-    → boolCase (Told r) ≡ isSettledOf list
-unfolding listRefusal
-told list r h e f = rw (le-ltb _ _ h, ← e, f)

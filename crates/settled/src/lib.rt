@@ -1,23 +1,15 @@
 // Whether a list is settled, by the locations of its tiles along the quadtree.
-use constants::MAX_ENTRIES;
-use errors::BoolAnswer;
-use errors::Refusal;
-use quadtree::Key;
 use tile::Tile;
 use tile::TileAnswer;
 ghost use mathlib.Core.Path.{_≡_};
 ghost use mathlib.Core.Bool.{true};
 ghost use mathlib.Core.List.{map};
-ghost use Prim.Native.Nat.{_≤_};
-ghost use lib.ListN.{length};
 ghost use Rattle.bits.specs.Tests.{allOf};
-ghost use Rattle.constants.specs.Limits.{maxEntries};
-ghost use Rattle.errors.specs.Cases.{boolCase};
 ghost use Rattle.ids.specs.Entry.{isEntry};
 ghost use Rattle.quadtree.specs.Lists.{entryKey, TileNumbers};
 ghost use Rattle.quadtree.specs.Numbers.{OfMap, locationOf, rankOf};
 ghost use Rattle.quadtree.specs.declared.Key.the-variants.{Location};
-ghost use Rattle.settled.specs.Answers.{Lone, Tested, isSettledOf};
+ghost use Rattle.settled.specs.Answers.{Lone, Tested};
 ghost use Rattle.settled.specs.Settled.{strictlyInOrder};
 
 // Rises with the zoom, then the column, then the row.
@@ -86,76 +78,4 @@ pub fn settled(list: &[u64], locations: &mut [u64], scratch: &mut [u64]) -> bool
     }
     exchange::sort(locations, scratch);
     apart(locations)
-}
-
-// Whether a list is settled: strictly in order, no tile beside its own ancestor, no four siblings together.
-pub fn is_settled(list: &[u64]) -> BoolAnswer
-    ensures { λ r. ⌜ boolCase r ≡ isSettledOf (now (list .entry)) ⌝ }
-{
-    run(list, 2)
-}
-
-// The memory for the locations, and to sort them, is of the call's own and has to be cleared, so it is not much longer than the list:
-// one size for short lists, and `longer` ones. Each stands in a function of its own. The compiler joins such a function to its caller,
-// but not to a caller that calls itself: so a short list does not pay for the stack of a long one.
-fn run(list: &[u64], longer: u8) -> BoolAnswer
-    ensures { λ r. ⌜ boolCase r ≡ isSettledOf (now (list .entry)) ⌝ }
-{
-    let n = list.len();
-    if longer == 2 {
-        if n > 64 {
-            return run(list, 1);
-        }
-        return short(list);
-    }
-    if longer == 1 {
-        if n > 4096 {
-            return run(list, 0);
-        }
-        return middle(list);
-    }
-    if n > MAX_ENTRIES {
-        return BoolAnswer::Refused(Refusal::TooMany);
-    }
-    long(list)
-}
-
-fn short(list: &[u64]) -> BoolAnswer
-    requires { ⌜ length (now list) ≤ 64 ⌝ }
-    ensures { λ r. ⌜ boolCase r ≡ isSettledOf (now (list .entry)) ⌝ }
-{
-    let n = list.len();
-    let mut locations = [0u64; 64];
-    let mut scratch = [0u64; 64];
-    test_in(list, &mut locations[..n], &mut scratch)
-}
-
-fn middle(list: &[u64]) -> BoolAnswer
-    requires { ⌜ length (now list) ≤ 4096 ⌝ }
-    ensures { λ r. ⌜ boolCase r ≡ isSettledOf (now (list .entry)) ⌝ }
-{
-    let n = list.len();
-    let mut locations = [0u64; 4096];
-    let mut scratch = [0u64; 4096];
-    test_in(list, &mut locations[..n], &mut scratch)
-}
-
-fn long(list: &[u64]) -> BoolAnswer
-    requires { ⌜ length (now list) ≤ maxEntries ⌝ }
-    ensures { λ r. ⌜ boolCase r ≡ isSettledOf (now (list .entry)) ⌝ }
-{
-    let n = list.len();
-    let mut locations = [0u64; MAX_ENTRIES];
-    let mut scratch = [0u64; MAX_ENTRIES];
-    test_in(list, &mut locations[..n], &mut scratch)
-}
-
-fn test_in(list: &[u64], locations: &mut [u64], scratch: &mut [u64]) -> BoolAnswer
-    requires { ⌜ (length (now list) ≤ maxEntries) × (length (now list) ≡ length (now locations)) ⌝ }
-    ensures { λ r. ⌜ boolCase r ≡ isSettledOf (now (list .entry)) ⌝ }
-{
-    if !quadtree::keys(list, locations, Key::Location) {
-        return BoolAnswer::Refused(Refusal::NoTile);
-    }
-    BoolAnswer::Told(settled(list, locations, scratch))
 }

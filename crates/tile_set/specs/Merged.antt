@@ -1,15 +1,15 @@
 -- What passes of merging do to a set: which tiles they keep and which they make, and that after D passes nothing changes any more.
-use mathlib.Core.Path.{_≡_, refl, sym, ap, _∙_}
+use mathlib.Core.Path.{_≡_, refl, sym, ap, _∙_, subst}
 use mathlib.Core.Logic.{_⊎_, inl, inr, ⊎-elim, _↔_}
 use mathlib.Core.Bool.{Bool, true, false, not, _&&_, _||_, true≢false, and-eq-true-iff, and-false, or-true}
-use Prim.Native.Nat.{ℕ, zero, suc, _+_, _≤_, _<_}
+use Prim.Native.Nat.{ℕ, zero, suc, _+_, _%_, _≤_, _<_}
 use native.Mathlib.Decide.{decLt}
 use native.Mathlib.Omega.{arith}
 use lib.Dec.{leb, ltb}
 use borrow.Author.Tests.{leb-true, le-leb, ltb-true, lt-ltb, not-true}
 use Rattle.tile.specs.declared.Tile.{Tile}
 use Rattle.tile_set.specs.Holds.{Holds, holds-refl, holds-trans, holds-level, child-held, cut, parent-holds, parent-of-child, Valid}
-use Rattle.tile_set.specs.Holds.{valid-holder}
+use Rattle.tile_set.specs.Holds.{child-of-parent, valid-holder}
 use Rattle.tile_set.specs.Set.{parentTile, child, whole, joins, joined, merged, passes}
 
 -- a set of tiles of the map
@@ -72,6 +72,14 @@ module _ (m : ℕ) (S : Tile → Bool) where
   joins-when t =
       let i = and-eq-true-iff (ltb m (t .z)) (whole S (parentTile t)) in
       (λ e. (ltb-true m (t .z) (i .0 e .0), i .0 e .1), λ k. i .1 (lt-ltb m (t .z) (k .0), k .1))
+
+  -- a tile that joins is in the set
+  pub joins-in : (t : Tile) → joins m S t ≡ true → S t ≡ true
+  joins-in t e =
+      let w = joins-when t .0 e in
+      let h : 0 < t .z = omega (arith, w .0) in
+      let k = whole-all S (parentTile t) .0 (w .1) (t .x % 2) (t .y % 2) (omega arith) (omega arith) in
+      subst (λ (u : Tile). S u ≡ true) (child-of-parent t h) k
 
   pub joined-when : (p : Tile) → (joined m S p ≡ true) ↔ ((m ≤ p .z) × (whole S p ≡ true))
   joined-when p =

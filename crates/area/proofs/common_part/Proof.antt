@@ -1,0 +1,20 @@
+-- `common_part` is the work of that name.
+use mathlib.Core.Path.{_∙_}
+use Rattle.area.specs.Doors.{common-door}
+use borrow.Author.Needs.{needs}
+use Rattle.area.proofs.common_part.Statement.{statement}
+use Rattle.area.proofs.common_part.Tie as tie
+
+counted-requires : tie.Need-counted-requires
+counted-requires c κs = search needs
+
+same-length : tie.Need-same-length
+same-length c = search needs
+
+returns : tie.Need-returns
+returns c =
+    let a = c .before .before .before .before .before .before .before .args in
+    c .before .before .counted .ensures ∙ common-door (a .a .now) (a .b .now) (a .out .now)
+
+pub common-part-spec : {M : Type 1} → statement M
+common-part-spec = tie.close (tie.spec counted-requires same-length returns)
