@@ -33,14 +33,15 @@ one-holder {S} {a} {b} {t} apart p q h k = pick (decLe (a .z) (b .z))
     pick (no l) = sym (apart b a q p (holds-both k h (omega arith)))
 
 -- of the ancestors of the tile of Morton code q and zoom z, those at `steps` and more are not the tile of Morton code g
-pub record Tested (q g z steps : ℕ) : Type 0 where
+pub record AncestorsTested (q g z steps : ℕ) : Type 0 where
   pub few : steps ≤ z
   pub none : (n : ℕ) → steps ≤ n → n < z → q / 4 ^ (n + 1) ≡ g → ⊥
 
-pub untested : {q g z : ℕ} → Tested q g z z
+pub untested : {q g z : ℕ} → AncestorsTested q g z z
 untested = record { few = omega arith; none = λ n a b e. omega (arith, a, b) }
 
-pub tested-more : {q g z steps : ℕ} → Tested q g z steps → 0 < steps → (q / 4 ^ (steps - 1 + 1) ≡ g → ⊥) → Tested q g z (steps - 1)
+pub tested-more : {q g z steps : ℕ} → AncestorsTested q g z steps → 0 < steps → (q / 4 ^ (steps - 1 + 1) ≡ g → ⊥)
+    → AncestorsTested q g z (steps - 1)
 tested-more {q} {g} {z} {steps} t h e = record { few = omega (arith, t .few); none = none }
   where
     none : (n : ℕ) → steps - 1 ≤ n → n < z → q / 4 ^ (n + 1) ≡ g → ⊥
@@ -83,7 +84,7 @@ module _ (m : ℕ) {list tops : List ℕ} (T : Tops list tops) {h t : Tile} (top
   pub found-goes : (n : ℕ) → OfMap h → OfMap t → m ≤ n → n < t .z → mortonOf t / 4 ^ (n + 1) ≡ mortonOf h → uncovered m S t ≡ true → ⊥
   found-goes n o u k l e = far-goes (omega (arith, ancestor-zoom n o u l e))
 
-  pub tested-stays : (steps : ℕ) → S t ≡ true → steps ≤ m → Tested (mortonOf t) (mortonOf h) (t .z) steps → uncovered m S t ≡ true
+  pub tested-stays : (steps : ℕ) → S t ≡ true → steps ≤ m → AncestorsTested (mortonOf t) (mortonOf h) (t .z) steps → uncovered m S t ≡ true
   tested-stays steps e l a = near-stays e (near (decLt (h .z + m) (t .z)))
     where
       near : Dec (h .z + m < t .z) → t .z ≤ h .z + m

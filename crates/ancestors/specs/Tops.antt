@@ -31,7 +31,7 @@ pub record Ahead (tops : List ℕ) (from k : ℕ) : Type 0 where
   pub ends : k < endOf (tiles tops index)
 
 -- r is the first such top
-pub record First (tops : List ℕ) (from k r : ℕ) : Type 0 where
+pub record FirstTop (tops : List ℕ) (from k r : ℕ) : Type 0 where
   pub later : from ≤ r
   pub within : r < length tops
   pub ends : k < endOf (tiles tops r)

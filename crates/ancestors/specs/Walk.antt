@@ -22,8 +22,8 @@ use Rattle.tile_set.specs.Holds.{Holds}
 use Rattle.tile_set.specs.Merged.{bool-ext}
 use Rattle.tile_set.specs.Set.{uncovered}
 use Rattle.tile_set.specs.Uncovered.{uncovered-of}
-use Rattle.ancestors.specs.Laws.{Tested, found-goes, tested-stays}
-use Rattle.ancestors.specs.Tops.{Tops, Ahead, First, Uncovers}
+use Rattle.ancestors.specs.Laws.{AncestorsTested, found-goes, tested-stays}
+use Rattle.ancestors.specs.Tops.{Tops, Ahead, FirstTop, Uncovers}
 
 module _ {list tops : List ℕ} (T : Tops list tops) (j : ℕ) (h : j < length tops) where
   pub top-location : IsLocation (getD tops j 0)
@@ -61,7 +61,7 @@ module _ {list tops : List ℕ} (T : Tops list tops) {k : ℕ} (s : IsLocation k
       later (yes l) = absurd (omega (arith, passed (holder .index) l, ends))
       later (no l) = omega arith
 
-  module _ {r : ℕ} (F : First tops from k r) where
+  module _ {r : ℕ} (F : FirstTop tops from k r) where
     pub passed-more : (j : ℕ) → j < r → endOf (tiles tops j) ≤ k
     passed-more j l = pick (decLt j from)
       where
@@ -114,8 +114,8 @@ pub record Walk (m : ℕ) (l₀ tops l : List ℕ) (count top i : ℕ) : Type 0 
   pub stands : (n : ℕ) → n < i → uncovered m (named locationTile l₀) (tiles l₀ n) ≡ true → Stands l count (mortonOf (tiles l₀ n))
   pub passed : (j n : ℕ) → j < top → i ≤ n → n < length l₀ → endOf (tiles tops j) ≤ getD l₀ n 0
 
-pub begun : {m : ℕ} {l tops : List ℕ} → Walk m l tops l 0 0 0
-begun = record {
+pub walk-begun : {m : ℕ} {l tops : List ℕ} → Walk m l tops l 0 0 0
+walk-begun = record {
   order = omega arith;
   within = omega arith;
   long = refl;
@@ -146,7 +146,7 @@ module _ {m : ℕ} {l₀ tops l : List ℕ} {count top i : ℕ} (f : TileNumbers
   pub next-ahead : Ahead tops top (getD l i 0)
   next-ahead = ahead T next-location listed top behind
 
-  module _ {r : ℕ} (F : First tops top (getD l i 0) r) where
+  module _ {r : ℕ} (F : FirstTop tops top (getD l i 0) r) where
     holds : Holds (tiles tops r) (tiles l i)
     holds = first-holds T next-location listed top behind F
 
@@ -180,7 +180,7 @@ module _ {m : ℕ} {l₀ tops l : List ℕ} {count top i : ℕ} (f : TileNumbers
               pick (yes d) u = W .stands k d u
               pick (no d) u = let v : k ≡ i = omega arith in absurd (goes (rw (same, ← v) u))
 
-      pub kept : (steps : ℕ) → steps ≤ m → Tested q g z steps → Walk m l₀ tops (set l count q) (count + 1) r (i + 1)
+      pub kept : (steps : ℕ) → steps ≤ m → AncestorsTested q g z steps → Walk m l₀ tops (set l count q) (count + 1) r (i + 1)
       kept steps a b = record {
         order = omega (arith, W .order);
         within = rw (length-set l count q) (omega arith);

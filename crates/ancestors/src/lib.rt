@@ -11,7 +11,7 @@ ghost use Rattle.sort.specs.Sort.{By};
 ghost use Rattle.tile_list.specs.Finish.{Listed};
 ghost use Rattle.tile_list.specs.List.{named};
 ghost use Rattle.tile_set.specs.Set.{simplifiedV1};
-ghost use Rattle.ancestors.specs.Tops.{Tops, Ahead, First, Uncovers};
+ghost use Rattle.ancestors.specs.Tops.{Tops, Ahead, FirstTop, Uncovers};
 
 // No zoom is above it, so settling at this minimum zoom joins nothing and leaves the topmost tiles.
 const NO_ZOOM: u8 = 255;
@@ -68,7 +68,7 @@ fn uncovered(locations: &mut [u64], tops: &[u64], m: u8) -> usize
 // The first of the tops from `from` on whose run ends behind k.
 fn top_of(tops: &[u64], from: usize, k: u64) -> usize
     requires { ⌜ TileNumbers locationOf (now tops) × Ahead (now tops) from k ⌝ }
-    ensures { λ r. ⌜ First (now (tops .entry)) from k r ⌝ }
+    ensures { λ r. ⌜ FirstTop (now (tops .entry)) from k r ⌝ }
 {
     let mut top = from;
     while end(tops[top]) <= k {

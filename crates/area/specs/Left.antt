@@ -29,8 +29,8 @@ module _ (kept gone : List ℕ) (G H : ℕ → ℕ → Bool) (C : Cover maxZoom 
   abbrev taken : List Tile
   taken = map locationTile gone
 
-  abbrev pub Left : Tile → Type 0
-  Left t = named locationTile (map locationOf (without kept gone)) t ≡ true
+  abbrev pub LeftTile : Tile → Type 0
+  LeftTile t = named locationTile (map locationOf (without kept gone)) t ≡ true
 
   abbrev only : ℕ → ℕ → Bool
   only X Y = G X Y && not (H X Y)
@@ -61,14 +61,14 @@ module _ (kept gone : List ℕ) (G H : ℕ → ℕ → Bool) (C : Cover maxZoom 
   left-of-map : (t : Tile) → List·Memᴰ t (without kept gone) → Valid maxZoom t
   left-of-map t m = let f = from-list t m in left-valid maxZoom taken deep (f .whole) (f .valid) t (f .part)
 
-  in-list : (t : Tile) → Left t → List·Memᴰ t (without kept gone)
+  in-list : (t : Tile) → LeftTile t → List·Memᴰ t (without kept gone)
   in-list t e =
       let s = named-by locationTile (map locationOf (without kept gone)) t e in
       let u = in-map locationOf (without kept gone) (s .1) in
       let v = left-of-map (u .0) (u .1) in
       Memᴰ·cast (sym (sym (location-tile (u .0) (map-tile (u .0) v)) ∙ (ap locationTile (sym (u .2)) ∙ s .2))) (u .1)
 
-  list-in : (t : Tile) → List·Memᴰ t (without kept gone) → Left t
+  list-in : (t : Tile) → List·Memᴰ t (without kept gone) → LeftTile t
   list-in t m =
       names locationTile (map locationOf (without kept gone)) (locationOf t) t (into-map locationOf (without kept gone) m)
       (location-tile t (map-tile t (left-of-map t m)))
@@ -81,10 +81,10 @@ module _ (kept gone : List ℕ) (G H : ℕ → ℕ → Bool) (C : Cover maxZoom 
       → H X Y ≡ false
   not-in X Y a b none = is-false (H X Y) (λ e. let r = E .covers X Y a b e in none (r .0) (in-taken (r .0) (r .1)) (r .2))
 
-  pub difference-covers : Cover maxZoom only Left
+  pub difference-covers : Cover maxZoom only LeftTile
   difference-covers = record { of-map = λ t e. left-of-map t (in-list t e); covers = covers; covered = covered }
     where
-      covers : (X Y : ℕ) → X < 2 ^ maxZoom → Y < 2 ^ maxZoom → only X Y ≡ true → (r : Tile) × Left r × Holds r (tileAt X Y maxZoom)
+      covers : (X Y : ℕ) → X < 2 ^ maxZoom → Y < 2 ^ maxZoom → only X Y ≡ true → (r : Tile) × LeftTile r × Holds r (tileAt X Y maxZoom)
       covers X Y a b e =
           let p = and-parts (G X Y) (not (H X Y)) e in
           let w = C .covers X Y a b (p .0) in
@@ -98,7 +98,7 @@ module _ (kept gone : List ℕ) (G H : ℕ → ℕ → Bool) (C : Cover maxZoom 
             r .2,
           )
 
-      covered : (X Y : ℕ) (t : Tile) → Left t → Holds t (tileAt X Y maxZoom) → only X Y ≡ true
+      covered : (X Y : ℕ) (t : Tile) → LeftTile t → Holds t (tileAt X Y maxZoom) → only X Y ≡ true
       covered X Y t e h =
           let f = from-list t (in-list t e) in
           let r = left-covers maxZoom taken deep (tileAt X Y maxZoom) refl (f .whole) (f .valid .zoom) .0 (t, f .part, h) in
@@ -107,7 +107,7 @@ module _ (kept gone : List ℕ) (G H : ℕ → ℕ → Bool) (C : Cover maxZoom 
 
   -- the parent of a tile that is left is not full: it is no larger part of the first list's ground, or it holds a tile that is taken away
   pub difference-tops : ((t : Tile) → named locationTile kept t ≡ true → 0 < t .z → Full maxZoom G (parentTile t) → ⊥)
-      → (t : Tile) → Left t → 0 < t .z → Full maxZoom only (parentTile t) → ⊥
+      → (t : Tile) → LeftTile t → 0 < t .z → Full maxZoom only (parentTile t) → ⊥
   difference-tops tops t e l full = pick (left-needed maxZoom taken deep (f .whole) (f .valid .zoom) t (f .part))
     where
       f : From t

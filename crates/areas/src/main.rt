@@ -9,7 +9,7 @@ use libc::types::timespec;
 ghost use mathlib.Core.Path.{_≡_};
 ghost use Prim.Native.Nat.{suc, _<_};
 ghost use lib.ListN.{length, take};
-ghost use Rattle.areas.specs.LineSoFar.{Keeps};
+ghost use Rattle.areas.specs.LineSoFar.{KeepsLine};
 ghost use Rattle.constants.specs.Limits.{maxLine};
 ghost use Rattle.form_line.specs.Longest.{longest};
 
@@ -58,7 +58,7 @@ fn main() {
 fn take_in(chunk: &[u8], feeding: Feeding, line: &mut [u8; KEPT], out: &mut [u8]) -> Line
     requires { ⌜ (longest < length (now out)) × (length (now line) ≡ suc maxLine) ⌝ }
     ensures { λ r. ⌜ (length (now (out .exit)) ≡ length (now (out .entry))) × (length (now (line .exit)) ≡ suc maxLine)
-        × Keeps (now (chunk .entry)) (take (feeding .len) (now (line .entry))) (now (line .exit)) r ⌝ }
+        × KeepsLine (now (chunk .entry)) (take (feeding .len) (now (line .entry))) (now (line .exit)) r ⌝ }
 {
     let mut so_far = form_stream::next_chunk(feeding);
     while so_far.at < chunk.len() {

@@ -54,8 +54,8 @@ abbrev pub containsBox : BBox → BBox → Bool
 containsBox a b = cond (crosses a && not (crosses b)) (lngsInPart a b) (lngsInside a b) && latsInside a b
 
 -- a in b, with no notice of the antimeridian
-abbrev pub within : BBox → BBox → Bool
-within a b = lngsInside b a && latsInside b a
+abbrev pub isWithin : BBox → BBox → Bool
+isWithin a b = lngsInside b a && latsInside b a
 
 -- ---- boxes that meet: neither begins past the other's end, with no notice of the antimeridian
 

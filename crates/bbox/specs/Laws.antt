@@ -39,12 +39,12 @@ in-halves false false l = refl
 
 -- ---- what follows from joined tests
 
-pub left : (p q : Bool) → T p → T (p || q)
-left true q h = tt
+pub or-left : (p q : Bool) → T p → T (p || q)
+or-left true q h = tt
 
-pub right : (p q : Bool) → T q → T (p || q)
-right true q h = tt
-right false q h = h
+pub or-right : (p q : Bool) → T q → T (p || q)
+or-right true q h = tt
+or-right false q h = h
 
 pub neither : (p q : Bool) → T (not p) → T (not q) → T (not (p || q))
 neither false false h k = tt
@@ -78,8 +78,8 @@ out-of-upright false w e s n c = all-four w e s n
 -- longitudes of a point in a box b in a box a, where a crosses or b does not
 pub lng-through : (a b w e wb be wa ae : Bool) → (T w → T wb → T wa) → (T be → T e → T ae) → T (a || not b)
     → T (cond (a && not b) (w || e) (w && e)) → T (cond b (wb || be) (wb && be)) → T (cond a (wa || ae) (wa && ae))
-lng-through true true true true true be wa ae f g o h k = left wa ae (f tt tt)
-lng-through true true true true false true wa ae f g o h k = right wa ae (g tt tt)
-lng-through true false true e true true wa ae f g o h k = left wa ae (f tt tt)
-lng-through true false false true true true wa ae f g o h k = right wa ae (g tt tt)
+lng-through true true true true true be wa ae f g o h k = or-left wa ae (f tt tt)
+lng-through true true true true false true wa ae f g o h k = or-right wa ae (g tt tt)
+lng-through true false true e true true wa ae f g o h k = or-left wa ae (f tt tt)
+lng-through true false false true true true wa ae f g o h k = or-right wa ae (g tt tt)
 lng-through false false true true true true wa ae f g o h k = and-i wa ae (f tt tt) (g tt tt)

@@ -10,7 +10,7 @@ use native.Mathlib.Omega.{arith}
 use lib.Dec.{T, leb, ltb, eqb, leb→le, nleb→lt, lt→ltb, ltb→lt, eqb→eq, not-T}
 use lib.Ieee.{Float, nan, inf, fin, up, down, lt, eq, le, isNan, below, level}
 use lib.Ieee.Fits.{down-pos, and-l, and-r, and-i, eq→eqb}
-use Rattle.bbox.specs.Laws.{left, right}
+use Rattle.bbox.specs.Laws.{or-left, or-right}
 
 pub first-known : (x y : Float) → T (le x y) → T (not (isNan x))
 unfolding le isNan
@@ -26,7 +26,7 @@ second-known (fin s m e) nan h = h
 
 pub lt-le : (x y : Float) → T (lt x y) → T (le x y)
 unfolding le
-lt-le x y h = left (lt x y) (eq x y) h
+lt-le x y h = or-left (lt x y) (eq x y) h
 
 -- ---- two finite numbers, each a sign and a magnitude in the same unit
 
@@ -59,18 +59,18 @@ read true a true b h =
 write : (s : Bool) (a : ℕ) (t : Bool) (b : ℕ) → Le s a t b → T (below s a t b || level s a t b)
 write false a false b h =
     elim (eq-or-lt-of-le h) [
-      | inl e ↦ right (ltb a b) (eqb a b && true) (and-i (eqb a b) true (eq→eqb e) tt)
-      | inr l ↦ left (ltb a b)
+      | inl e ↦ or-right (ltb a b) (eqb a b && true) (and-i (eqb a b) true (eq→eqb e) tt)
+      | inr l ↦ or-left (ltb a b)
           (eqb a b && true) (lt→ltb a b l)
     ]
 write false a true b h = and-i (eqb a b) (eqb a 0) (eq→eqb (h .0 ∙ sym (h .1))) (eq→eqb (h .0))
 write true zero false zero h = tt
-write true zero false (suc b) h = left (ltb 0 (0 + suc b)) (level true 0 false (suc b)) (lt→ltb 0 (0 + suc b) (omega arith))
-write true (suc a) false b h = left (ltb 0 (suc a + b)) (level true (suc a) false b) (lt→ltb 0 (suc a + b) (omega arith))
+write true zero false (suc b) h = or-left (ltb 0 (0 + suc b)) (level true 0 false (suc b)) (lt→ltb 0 (0 + suc b) (omega arith))
+write true (suc a) false b h = or-left (ltb 0 (suc a + b)) (level true (suc a) false b) (lt→ltb 0 (suc a + b) (omega arith))
 write true a true b h =
     elim (eq-or-lt-of-le h) [
-      | inl e ↦ right (ltb b a) (eqb a b && true) (and-i (eqb a b) true (eq→eqb (sym e)) tt)
-      | inr l ↦ left
+      | inl e ↦ or-right (ltb b a) (eqb a b && true) (and-i (eqb a b) true (eq→eqb (sym e)) tt)
+      | inr l ↦ or-left
           (ltb b a) (eqb a b && true) (lt→ltb b a l)
     ]
 

@@ -11,7 +11,7 @@ use lib.Ieee.Fits.{and-i, and-l, and-r}
 use Rattle.bbox.specs.declared.BBox.{BBox}
 use Rattle.bbox.specs.declared.LngLat.{LngLat}
 use Rattle.bbox.specs.Box.{atMost, box, point, crosses, lngInside, latInside, containsPoint, lngsInside, latsInside, lngsInPart}
-use Rattle.bbox.specs.Box.{containsBox, within, meets, degrees, mapWest, mapEast, toAntimeridian, fromAntimeridian, parts}
+use Rattle.bbox.specs.Box.{containsBox, isWithin, meets, degrees, mapWest, mapEast, toAntimeridian, fromAntimeridian, parts}
 use Rattle.bbox.specs.Laws as laws
 use Rattle.bbox.specs.Order as order
 use Rattle.bbox.specs.Rust as rust
@@ -29,7 +29,7 @@ rust-contains-bbox a b =
     laws.box-tests (crosses a) (crosses b) (atMost (a .west) (b .west)) (atMost (b .east) (a .east)) (atMost (a .south) (b .south))
     (atMost (b .north) (a .north))
 
-pub rust-is-within : (a b : BBox) → rust.is_within a b ≡ within a b
+pub rust-is-within : (a b : BBox) → rust.is_within a b ≡ isWithin a b
 rust-is-within a b = rw laws.backward
 
 pub rust-intersects : (a b : BBox) → rust.intersects a b ≡ meets a b
@@ -104,9 +104,9 @@ nan-edge-contains-no-box a b =
     (λ w e s n. no-nan a (order.first-known (a .west) (b .west) w) (south s) (order.second-known (b .east) (a .east) e) (north n)))
 
 -- is within no box and has none within it,
-pub nan-edge-is-not-within : (a b : BBox) → T (hasNan a || hasNan b) → T (not (within a b))
+pub nan-edge-is-not-within : (a b : BBox) → T (hasNan a || hasNan b) → T (not (isWithin a b))
 nan-edge-is-not-within a b =
-    laws.rules-out (hasNan a || hasNan b) (within a b)
+    laws.rules-out (hasNan a || hasNan b) (isWithin a b)
     (laws.all-four (atMost (b .west) (a .west)) (atMost (a .east) (b .east)) (atMost (b .south) (a .south)) (atMost (a .north) (b .north))
     (λ w e s n. laws.neither (hasNan a) (hasNan b)
     (no-nan a (order.second-known (b .west) (a .west) w) (order.second-known (b .south) (a .south) s)
@@ -137,13 +137,13 @@ nan-edge-may-be-contained = tt
 -- ---- Boxes and their points
 
 -- In a box that does not cross, `is_within` and `contains_bbox` agree.
-pub within-is-contained : (a b : BBox) → T (not (crosses b)) → within a b ≡ containsBox b a
+pub within-is-contained : (a b : BBox) → T (not (crosses b)) → isWithin a b ≡ containsBox b a
 within-is-contained a b h = rw (is-false (crosses b) h)
 
 -- So it contains no box with a NaN edge.
 pub nan-edge-is-not-contained : (a b : BBox) → T (not (crosses a)) → T (hasNan b) → T (not (containsBox a b))
 nan-edge-is-not-contained a b u h =
-    subst (λ (t : Bool). T (not t)) (within-is-contained b a u) (nan-edge-is-not-within b a (laws.left (hasNan b) (hasNan a) h))
+    subst (λ (t : Bool). T (not t)) (within-is-contained b a u) (nan-edge-is-not-within b a (laws.or-left (hasNan b) (hasNan a) h))
 
 -- A box that contains another contains its points, unless the other one alone crosses.
 pub contains-its-points : (a b : BBox) (p : LngLat) → T (crosses a || not (crosses b)) → T (containsBox a b) → T (containsPoint b p)

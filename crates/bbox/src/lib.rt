@@ -1,7 +1,7 @@
 // Boxes of degrees, `bbox.rs`: what lies in a box, which boxes meet, and the parts of one that crosses the antimeridian.
 // A comparison with NaN is false. `&` and `|` stand for the Rust's `&&` and `||`: they join comparisons, which do nothing else.
 ghost use mathlib.Core.Path.{_≡_};
-ghost use Rattle.bbox.specs.Box.{box, crosses, containsPoint, containsBox, within, meets, parts, held};
+ghost use Rattle.bbox.specs.Box.{box, crosses, containsPoint, containsBox, isWithin, meets, parts, held};
 
 // A place on the map, in degrees.
 pub struct LngLat {
@@ -91,7 +91,7 @@ impl BBox {
 
     // Whether this box's edges lie inside the other's, with no notice of the antimeridian.
     pub fn is_within(self, other: BBox) -> bool
-        ensures { λ r. ⌜ r ≡ within self other ⌝ }
+        ensures { λ r. ⌜ r ≡ isWithin self other ⌝ }
     {
         (self.north <= other.north)
             & (self.south >= other.south)

@@ -46,18 +46,18 @@ entriesFor kept (earlier i) = settledEntries (setAt kept i)
 
 -- What follows is of a call whose operands stand for these sets, with these entries. "`simplify` keeps the set of the list handed in;
 -- union keeps the zoom-29 tiles in either set, common part those in both, difference those in the first and not in the second"
-abbrev pub setOf : (Operand → ℕ → ℕ → Bool) → Operation → ℕ → ℕ → Bool
-setOf set (settling a) X Y = set a X Y
-setOf set (union a b) X Y = set a X Y || set b X Y
-setOf set (commonPart a b) X Y = set a X Y && set b X Y
-setOf set (difference a b) X Y = set a X Y && not (set b X Y)
+abbrev pub setKept : (Operand → ℕ → ℕ → Bool) → Operation → ℕ → ℕ → Bool
+setKept set (settling a) X Y = set a X Y
+setKept set (union a b) X Y = set a X Y || set b X Y
+setKept set (commonPart a b) X Y = set a X Y && set b X Y
+setKept set (difference a b) X Y = set a X Y && not (set b X Y)
 
 -- the places that it needs: one for each entry handed in, and for a difference one for each entry of its result
 abbrev pub placesFor : (Operand → ℕ → ℕ → Bool) → (Operand → List ℕ) → Operation → ℕ
 placesFor set entries (settling a) = length (entries a)
 placesFor set entries (union a b) = length (entries a) + length (entries b)
 placesFor set entries (commonPart a b) = length (entries a) + length (entries b)
-placesFor set entries (difference a b) = length (settledEntries (setOf set (difference a b)))
+placesFor set entries (difference a b) = length (settledEntries (setKept set (difference a b)))
 
 -- refusals 6 and 7, and for two lists 11
 abbrev pub listsRefusal : (Operand → List ℕ) → Operation → ℕ
@@ -76,7 +76,7 @@ keep zero set = record { refusal = 0; set = set }
 keep (suc n) set = record { refusal = suc n; set = nothing }
 
 abbrev pub keptOf : (Operand → ℕ → ℕ → Bool) → (Operand → List ℕ) → Told → Kept
-keptOf set entries c = keep (refusalOf set entries c) (setOf set (c .asked))
+keptOf set entries c = keep (refusalOf set entries c) (setKept set (c .asked))
 
 abbrev pub keptNext : List Kept → Told → Kept
 keptNext kept c = keptOf (setFor kept) (entriesFor kept) c

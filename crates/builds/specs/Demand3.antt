@@ -12,7 +12,7 @@ use Rattle.area.specs.Area.{tilesOf, groundOf, settledEntries}
 use Rattle.area.specs.Grounds.{settled-tiles, settled-ground, settled-none, one-settled}
 use Rattle.area.specs.Settled.{settled-test, settled-entries-settled}
 use Rattle.bits.specs.Tests.{allOf}
-use Rattle.builds.specs.Account.{Kept, nothing, nothingKept, told, setFor, entriesFor, setOf, refusalOf, keep}
+use Rattle.builds.specs.Account.{Kept, nothing, nothingKept, told, setFor, entriesFor, setKept, refusalOf, keep}
 use Rattle.builds.specs.Account.{keptOf, keptNext, account}
 use Rattle.builds.specs.Beside.{Agree, beside, agree-at}
 use Rattle.builds.specs.Build.{Operand, own, earlier, Operation, settling, union, commonPart, difference, Call, Build}
@@ -40,8 +40,8 @@ callAt build i = getD build i noCall
 abbrev pub returned : Build → ℕ → Lent ℕ
 returned build i = getD (run [] build) i nothingBack
 
-abbrev pub answer : Build → ℕ → List ℕ
-answer build i = answerOf (returned build i)
+abbrev pub callAnswer : Build → ℕ → List ℕ
+callAnswer build i = answerOf (returned build i)
 
 abbrev pub kept : Build → ℕ → Kept
 kept build i = getD (account [] (map told build)) i nothingKept
@@ -60,7 +60,7 @@ pub record AnsweredTo (build : Build) (i : ℕ) (asked : Operation) : Type 0 whe
 -- No other call can be named: that is no build, and is read as the empty list.
 abbrev pub listNamed : Build → ℕ → Operand → List ℕ
 listNamed build k (own list) = list
-listNamed build k (earlier i) = cond (ltb i k) (answer build i) []
+listNamed build k (earlier i) = cond (ltb i k) (callAnswer build i) []
 
 -- the same for the account: "A list of the caller's own stands for its ground, an answer for the set kept with it"
 abbrev pub setNamed : Build → ℕ → Operand → ℕ → ℕ → Bool
@@ -93,35 +93,36 @@ pub record Demand3 (one other : Build) : Type 0 where
   pub refusals : (k : ℕ) → returned one k .number ≡ kept one k .refusal
   pub refused-by-words : (k : ℕ) → k < length one → RefusedByWords one k
   -- "each answer is settled"
-  pub settled : (k : ℕ) → Settled maxZoom (tilesOf (answer one k))
+  pub settled : (k : ℕ) → Settled maxZoom (tilesOf (callAnswer one k))
   -- "and covers exactly the zoom-29 tiles that the paper's plain account, fed with the calls alone, keeps for it"
-  pub ground-kept : (k : ℕ) → Same maxZoom (groundOf (answer one k)) (kept one k .set)
+  pub ground-kept : (k : ℕ) → Same maxZoom (groundOf (callAnswer one k)) (kept one k .set)
   -- "for settling those of the list handed in, for the others those in either list, in both, or in the first only"
   pub of-the-list : (k : ℕ) (a : Operand) → AnsweredTo one k (settling a)
-      → Same maxZoom (groundOf (answer one k)) (groundOf (listNamed one k a))
+      → Same maxZoom (groundOf (callAnswer one k)) (groundOf (listNamed one k a))
   pub in-either : (k : ℕ) (a b : Operand) → AnsweredTo one k (union a b)
-      → Same maxZoom (groundOf (answer one k)) (λ X Y. groundOf (listNamed one k a) X Y || groundOf (listNamed one k b) X Y)
+      → Same maxZoom (groundOf (callAnswer one k)) (λ X Y. groundOf (listNamed one k a) X Y || groundOf (listNamed one k b) X Y)
   pub in-both : (k : ℕ) (a b : Operand) → AnsweredTo one k (commonPart a b)
-      → Same maxZoom (groundOf (answer one k)) (λ X Y. groundOf (listNamed one k a) X Y && groundOf (listNamed one k b) X Y)
+      → Same maxZoom (groundOf (callAnswer one k)) (λ X Y. groundOf (listNamed one k a) X Y && groundOf (listNamed one k b) X Y)
   pub in-first-only : (k : ℕ) (a b : Operand) → AnsweredTo one k (difference a b)
-      → Same maxZoom (groundOf (answer one k)) (λ X Y. groundOf (listNamed one k a) X Y && not (groundOf (listNamed one k b) X Y))
+      → Same maxZoom (groundOf (callAnswer one k)) (λ X Y. groundOf (listNamed one k a) X Y && not (groundOf (listNamed one k b) X Y))
   -- "Two answers, from one build or from two, are the same list exactly when they cover the same ground"
-  pub same-ground : (i j : ℕ) → (answer one i ≡ answer other j) ↔ Same maxZoom (groundOf (answer one i)) (groundOf (answer other j))
+  pub same-ground : (i j : ℕ) → (callAnswer one i ≡ callAnswer other j)
+      ↔ Same maxZoom (groundOf (callAnswer one i)) (groundOf (callAnswer other j))
   -- "Answers are the same list if their counts and entries are": the count is the answer's length
-  pub counted : (k : ℕ) → returned one k .value ≡ length (answer one k)
+  pub counted : (k : ℕ) → returned one k .value ≡ length (callAnswer one k)
   -- "Every list of tiles of zoom 0 to 29 that covers just an answer's ground, repeats and overlaps allowed, has at least as many entries as
   -- the count returned with the answer"
   pub least : (k : ℕ) (tiles : List Tile) → ((t : Tile) → List·Memᴰ t tiles → Valid maxZoom t)
-      → Same maxZoom (ground maxZoom tiles) (groundOf (answer one k)) → returned one k .value ≤ length tiles
+      → Same maxZoom (ground maxZoom tiles) (groundOf (callAnswer one k)) → returned one k .value ≤ length tiles
 
 agreed : (build : Build) (k : ℕ) → Agree (returned build k) (kept build k)
 agreed build k = agree-at (run [] build) (account [] (map told build)) (beside [] [] tt build) k
 
 -- an answer is the settled list of the set that is kept
-its-list : (build : Build) (k : ℕ) → Settled maxZoom (tilesOf (answer build k))
+its-list : (build : Build) (k : ℕ) → Settled maxZoom (tilesOf (callAnswer build k))
 its-list build k = rw (agreed build k .answer, settled-tiles (kept build k .set)) (settled-list-settled maxZoom (kept build k .set))
 
-its-ground : (build : Build) (k : ℕ) → Same maxZoom (groundOf (answer build k)) (kept build k .set)
+its-ground : (build : Build) (k : ℕ) → Same maxZoom (groundOf (callAnswer build k)) (kept build k .set)
 its-ground build k = rw (agreed build k .answer) (settled-ground (kept build k .set))
 
 told-length : (build : Build) → length (map told build) ≡ length build
@@ -133,7 +134,7 @@ module _ (build : Build) (k : ℕ) (made : k < length build) where
   handed-list (own list) = refl
   handed-list (earlier i) = ap answerOf (turn-before comesBack build k i nothingBack (omega arith)) ∙ pick (ltb i k)
     where
-      pick : (b : Bool) → answerOf (cond b (returned build i) nothingBack) ≡ cond b (answer build i) []
+      pick : (b : Bool) → answerOf (cond b (returned build i) nothingBack) ≡ cond b (callAnswer build i) []
       pick true = refl
       pick false = refl
 
@@ -179,19 +180,19 @@ module _ (build : Build) (k : ℕ) where
   same-named (own list) X Y p q = refl
   same-named (earlier i) X Y p q = pick (ltb i k)
     where
-      pick : (b : Bool) → cond b (kept build i .set) nothing X Y ≡ groundOf (cond b (answer build i) []) X Y
+      pick : (b : Bool) → cond b (kept build i .set) nothing X Y ≡ groundOf (cond b (callAnswer build i) []) X Y
       pick true = sym (its-ground build i X Y p q)
       pick false = sym (settled-ground nothing X Y p q) ∙ ap (λ (l : List ℕ). groundOf l X Y) settled-none
 
-  covers : (asked : Operation) → AnsweredTo build k asked → Same maxZoom (groundOf (answer build k)) (setOf (setNamed build k) asked)
+  covers : (asked : Operation) → AnsweredTo build k asked → Same maxZoom (groundOf (callAnswer build k)) (setKept (setNamed build k) asked)
   covers asked t X Y p q =
       let c = callAt build k in
       let set = setNamed build k in
       let e = call-kept build k (t .answered .made) in
       let accepted = sym (ap (λ (q : Kept). q .refusal) e) ∙ (sym (agreed build k .refusal) ∙ t .answered .accepted) in
-      let all = keep-accepted (refusalOf set (entriesNamed build k) (told c)) (setOf set (c .asked)) accepted in
+      let all = keep-accepted (refusalOf set (entriesNamed build k) (told c)) (setKept set (c .asked)) accepted in
       its-ground build k X Y p q
-      ∙ (ap (λ (q : Kept). q .set X Y) e ∙ (ap (λ (G : ℕ → ℕ → Bool). G X Y) all ∙ ap (λ (o : Operation). setOf set o X Y) (t .to)))
+      ∙ (ap (λ (q : Kept). q .set X Y) e ∙ (ap (λ (G : ℕ → ℕ → Bool). G X Y) all ∙ ap (λ (o : Operation). setKept set o X Y) (t .to)))
 
 calls-later : (one later : Build) (k : ℕ) → k < length one
     → (returned (one ++ later) k ≡ returned one k) × (kept (one ++ later) k ≡ kept one k)
@@ -220,15 +221,15 @@ demand-3 one other = record {
       covers one k (difference a b) t X Y p q ∙ ap₂ (λ (u v : Bool). u && not v) (same-named one k a X Y p q) (same-named one k b X Y p q);
   same-ground = λ i j. (
     λ e X Y p q. ap (λ (l : List ℕ). groundOf l X Y) e,
-    λ e. one-settled (groundOf (answer other j)) (answer one i) (its-list one i) e
-        ∙ sym (one-settled (groundOf (answer other j)) (answer other j) (its-list other j) (λ X Y p q. refl)),
+    λ e. one-settled (groundOf (callAnswer other j)) (callAnswer one i) (its-list one i) e
+        ∙ sym (one-settled (groundOf (callAnswer other j)) (callAnswer other j) (its-list other j) (λ X Y p q. refl)),
   );
   counted = λ k. agreed one k .count;
-  least = λ k tiles v e. count k tiles (settled-is-least maxZoom (tilesOf (answer one k)) tiles (its-list one k) v e);
+  least = λ k tiles v e. count k tiles (settled-is-least maxZoom (tilesOf (callAnswer one k)) tiles (its-list one k) v e);
 }
   where
-    count : (k : ℕ) (tiles : List Tile) → length (tilesOf (answer one k)) ≤ length tiles → returned one k .value ≤ length tiles
-    count k tiles h = rw (agreed one k .count, ← length-map (answer one k) entryTile) h
+    count : (k : ℕ) (tiles : List Tile) → length (tilesOf (callAnswer one k)) ≤ length tiles → returned one k .value ≤ length tiles
+    count k tiles h = rw (agreed one k .count, ← length-map (callAnswer one k) entryTile) h
 
 -- The account's own notions are not empty. Each set has a settled list, and only one; refusals 7 and 11 never apply to it.
 pub record OneSettledList (G : ℕ → ℕ → Bool) : Type 0 where
@@ -250,7 +251,7 @@ every-set-has-one-settled-list G =
     }
 
 -- "they are those of the one settled list whose ground is that set": what the account asks for in the place of an answer is the answer
-pub an-answer-is-the-list-asked-for : (build : Build) (k : ℕ) → answer build k ≡ settledEntries (kept build k .set)
+pub an-answer-is-the-list-asked-for : (build : Build) (k : ℕ) → callAnswer build k ≡ settledEntries (kept build k .set)
 an-answer-is-the-list-asked-for build k = agreed build k .answer
 
 -- the refusals' words and the record's: a list passes the tests of 7 and 11 exactly where its tiles are settled

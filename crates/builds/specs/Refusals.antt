@@ -15,7 +15,7 @@ use Rattle.area.specs.Area.{unionEntries, commonEntries, differenceEntries}
 use Rattle.area.specs.Grounds.{settled-tiles, settled-ground, one-settled}
 use Rattle.area.specs.Settled.{settled-test}
 use Rattle.bits.specs.Tests.{and-parts, not-true, not-false, allOf, all-in}
-use Rattle.builds.specs.Account.{setOf, placesFor, refusalOf}
+use Rattle.builds.specs.Account.{setKept, placesFor, refusalOf}
 use Rattle.builds.specs.Build.{Operand, Operation, settling, union, commonPart, difference, performed}
 use Rattle.constants.specs.Limits.{maxZoom, maxEntries}
 use Rattle.errors.specs.Answer.{_when_, _else_, short}
@@ -245,7 +245,7 @@ fewer-than-left set entries a b places = (
 )
   where
     left : ℕ → ℕ → Bool
-    left = setOf set (difference a b)
+    left = setKept set (difference a b)
 
 pub a-call-is-refused : (set : Operand → ℕ → ℕ → Bool) (entries : Operand → List ℕ) (asked : Operation) (places : ℕ)
     → Refuses set entries asked places (refusalOf set entries (record { asked = asked; places = places }))

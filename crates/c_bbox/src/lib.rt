@@ -2,7 +2,7 @@
 use bbox::BBox;
 use bbox::LngLat;
 ghost use mathlib.Core.Path.{_≡_};
-ghost use Rattle.bbox.specs.Box.{box, containsBox, containsPoint, crosses, held, meets, parts, point, within};
+ghost use Rattle.bbox.specs.Box.{box, containsBox, containsPoint, crosses, held, isWithin, meets, parts, point};
 ghost use Rattle.c_bbox.specs.Boxes.{boxesAt};
 ghost use Rattle.c_give.specs.Exported.{answered, asByte, never};
 
@@ -60,7 +60,7 @@ pub fn is_within(
     told: &mut u8,
 ) -> u8
     ensures { λ r. ⌜ answered r (now (told .exit))
-        ≡ asByte (never (within (box west south east north) (box western southern eastern northern))) ⌝ }
+        ≡ asByte (never (isWithin (box west south east north) (box western southern eastern northern))) ⌝ }
 {
     let area = bbox(west, south, east, north);
     let other = bbox(western, southern, eastern, northern);

@@ -6,7 +6,7 @@ ghost use Rattle.c_give.specs.Exported.{answered, never};
 ghost use Rattle.c_tile.specs.Order.{orderNumber};
 ghost use Rattle.tile.specs.OnMap.{tileAt, tileRefusal, tryNew};
 ghost use Rattle.tile.specs.Order.{tileOrder};
-ghost use Rattle.tile.specs.Steps.{flipOf, upOf, downOf, leftOf, rightOf, upLeftOf, upRightOf, downLeftOf, downRightOf};
+ghost use Rattle.tile.specs.Steps.{flipOf, upOf, downOf, leftTileOf, rightOf, upLeftOf, upRightOf, downLeftOf, downRightOf};
 
 pub fn try_new(x: u32, y: u32, z: u8, tx: &mut u32, ty: &mut u32, tz: &mut u8) -> u8
     ensures { λ r. ⌜ answered r (tileAt (now (tx .exit)) (now (ty .exit)) (now (tz .exit))) ≡ tryNew x y z ⌝ }
@@ -69,7 +69,7 @@ pub fn down(x: u32, y: u32, z: u8, tx: &mut u32, ty: &mut u32, tz: &mut u8) -> u
 }
 
 pub fn left(x: u32, y: u32, z: u8, tx: &mut u32, ty: &mut u32, tz: &mut u8) -> u8
-    ensures { λ r. ⌜ answered r (tileAt (now (tx .exit)) (now (ty .exit)) (now (tz .exit))) ≡ leftOf (tileAt x y z) ⌝ }
+    ensures { λ r. ⌜ answered r (tileAt (now (tx .exit)) (now (ty .exit)) (now (tz .exit))) ≡ leftTileOf (tileAt x y z) ⌝ }
 {
     let t = Tile { x, y, z };
     c_give::tile(t.left(), tx, ty, tz)

@@ -17,7 +17,7 @@ use Rattle.tile.specs.declared.Tile.{Tile}
 use Rattle.children.specs.Children.{clockwise, zOrder, gather, descendants}
 use Rattle.children.specs.Laws.{descend-length}
 use Rattle.children.specs.Members.{flat-gather, gather-same}
-use Rattle.children.specs.Rust.{even, odd, child, vec, rustClockwise, rustZOrder, rustQueue}
+use Rattle.children.specs.Rust.{even, odd, rustChild, vec, rustClockwise, rustZOrder, rustQueue}
 use Rattle.children.specs.Under.{IsFamily, descend-under, under-small, descend-zoom}
 
 -- the children of a tile
@@ -120,7 +120,7 @@ module _ (t : Tile) (above : t .z < 29) (on-map : To29 (t .x) (t .y) (t .z)) whe
         omega (arith, pow-suc 2 (t .z)),
       )
 
-  made : {f g : ℕ → Run ℕ} {i j : ℕ} → Half f i → Half g j → child f g t ≡ returns (tileAt (2 * t .x + i) (2 * t .y + j) (suc (t .z)))
+  made : {f g : ℕ → Run ℕ} {i j : ℕ} → Half f i → Half g j → rustChild f g t ≡ returns (tileAt (2 * t .x + i) (2 * t .y + j) (suc (t .z)))
   made p q =
       let c = doubled p (t .x) (on-map .column) in
       let r = doubled q (t .y) (on-map .row) in

@@ -18,8 +18,8 @@ abbrev pub odd : ℕ → Run ℕ
 odd n = times 32 n 2 then λ twice. plus 32 twice 1
 
 -- `utile!(.., .., z + 1)`, by the column and the row
-abbrev pub child : (ℕ → Run ℕ) → (ℕ → Run ℕ) → Tile → Run Tile
-child column row t = column (t .x) then λ x. row (t .y) then λ y. plus 8 (t .z) 1 then λ z. rustNew x y z
+abbrev pub rustChild : (ℕ → Run ℕ) → (ℕ → Run ℕ) → Tile → Run Tile
+rustChild column row t = column (t .x) then λ x. row (t .y) then λ y. plus 8 (t .z) 1 then λ z. rustNew x y z
 
 -- `vec![..]`
 unfoldable pub vec : List (Run Tile) → Run (List Tile)
@@ -28,11 +28,11 @@ vec (r ∷ rs) = r then λ t. vec rs then λ ts. returns (t ∷ ts)
 
 -- the four tiles that `children` appends: top-left, top-right, bottom-right, bottom-left
 abbrev pub rustClockwise : Tile → Run (List Tile)
-rustClockwise t = vec (child even even t ∷ child odd even t ∷ child odd odd t ∷ child even odd t ∷ [])
+rustClockwise t = vec (rustChild even even t ∷ rustChild odd even t ∷ rustChild odd odd t ∷ rustChild even odd t ∷ [])
 
 -- those of `children_zorder` and `children1_zorder`: top-left, top-right, bottom-left, bottom-right
 abbrev pub rustZOrder : Tile → Run (List Tile)
-rustZOrder t = vec (child even even t ∷ child odd even t ∷ child even odd t ∷ child odd odd t ∷ [])
+rustZOrder t = vec (rustChild even even t ∷ rustChild odd even t ∷ rustChild even odd t ∷ rustChild odd odd t ∷ [])
 
 -- `while tiles[0].z < zoom`: the four of the first tile are put at the end, and the first tile is taken off
 unfoldable pub rustQueue : (Tile → Run (List Tile)) → ℕ → ℕ → List Tile → Run (List Tile)

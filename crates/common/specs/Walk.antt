@@ -38,20 +38,20 @@ pub record Written (out : List ℕ) (n v : ℕ) : Type 0 where
   pub is : getD out at 0 ≡ v
 
 -- the first i of a are passed: those of them that lie in a tile of b are written, and so is what they hold of b from j on
-pub record Passed (a b out : List ℕ) (i j n : ℕ) : Type 0 where
+pub record ListPassed (a b out : List ℕ) (i j n : ℕ) : Type 0 where
   pub within : i ≤ length a
   pub kept : (k m : ℕ) → k < i → m < length b → Holds (tiles b m) (tiles a k) → Written out n (getD a k 0)
   pub ahead : (k m : ℕ) → k < i → j ≤ m → m < length b → Holds (tiles a k) (tiles b m) → Written out n (getD b m 0)
 
 -- the first i of a and the first j of b are passed, and n locations are written, each by right
-pub record Walked (a b out : List ℕ) (i j n : ℕ) : Type 0 where
+pub record BothWalked (a b out : List ℕ) (i j n : ℕ) : Type 0 where
   pub room : n ≤ i + j
   pub right : (k : ℕ) → k < n → Lies a b (getD out k 0) ⊎ Lies b a (getD out k 0)
-  pub one : Passed a b out i j n
-  pub other : Passed b a out j i n
+  pub one : ListPassed a b out i j n
+  pub other : ListPassed b a out j i n
 
 -- the two lists are alike
-pub turned : {a b out : List ℕ} {i j n : ℕ} → Walked a b out i j n → Walked b a out j i n
+pub turned : {a b out : List ℕ} {i j n : ℕ} → BothWalked a b out i j n → BothWalked b a out j i n
 turned w = record {
   room = omega (arith, w .room);
   right = λ k h. ⊎-elim (λ l. inr l) (λ l. inl l) (w .right k h);
@@ -59,10 +59,10 @@ turned w = record {
   other = w .one;
 }
 
-pub begun : (a b out : List ℕ) → Walked a b out 0 0 0
-begun a b out = record { room = omega arith; right = λ k h. absurd (omega arith); one = none a b; other = none b a }
+pub both-begun : (a b out : List ℕ) → BothWalked a b out 0 0 0
+both-begun a b out = record { room = omega arith; right = λ k h. absurd (omega arith); one = none a b; other = none b a }
   where
-    none : (a b : List ℕ) → Passed a b out 0 0 0
+    none : (a b : List ℕ) → ListPassed a b out 0 0 0
     none a b = record { within = omega arith; kept = λ k m h. absurd (omega arith); ahead = λ k m h. absurd (omega arith) }
 
 -- what is written stays when v is written behind it
@@ -111,9 +111,10 @@ one-location {p} {q} s t h k =
       low-below (locationTile q),
     )
 
-module _ {a b out : List ℕ} {i j n : ℕ} (ra : Runs a) (rb : Runs b) (w : Walked a b out i j n) (ha : i < length a) (hb : j < length b) where
+module _ {a b out : List ℕ} {i j n : ℕ} (ra : Runs a) (rb : Runs b) (w : BothWalked a b out i j n)
+    (ha : i < length a) (hb : j < length b) where
   -- the run of a's next tile is over before that of b's begins
-  pub over : endOf (tiles a i) ≤ startOf (tiles b j) → Walked a b out (i + 1) j n
+  pub over : endOf (tiles a i) ≤ startOf (tiles b j) → BothWalked a b out (i + 1) j n
   over h = record {
     room = omega (arith, w .room);
     right = w .right;
@@ -141,7 +142,7 @@ module _ {a b out : List ℕ} {i j n : ℕ} (ra : Runs a) (rb : Runs b) (w : Wal
           (le-or-lt j m)
 
   -- a's next tile lies in b's
-  pub inside : n < length out → Holds (tiles b j) (tiles a i) → Walked a b (set out n (getD a i 0)) (i + 1) j (n + 1)
+  pub inside : n < length out → Holds (tiles b j) (tiles a i) → BothWalked a b (set out n (getD a i 0)) (i + 1) j (n + 1)
   inside h in' = record {
     room = omega (arith, w .room);
     right = λ k lt. ⊎-elim
@@ -191,7 +192,7 @@ nested {p} {q} s t el em h k le = pick (lies (locationTile p) (locationTile q) (
     pick (after e) = absurd (omega (arith, s .again, t .again))
 
 -- what stands in either set and lies in the other, at the end of one of the lists
-all-kept : {a b out : List ℕ} {i j n : ℕ} → Walked a b out i j n → (length a ≤ i) ⊎ (length b ≤ j)
+all-kept : {a b out : List ℕ} {i j n : ℕ} → BothWalked a b out i j n → (length a ≤ i) ⊎ (length b ≤ j)
     → (k m : ℕ) → k < length a → m < length b → Holds (tiles b m) (tiles a k) → Written out n (getD a k 0)
 all-kept {a} {b} {out} {i} {j} {n} w done k m f g e =
     ⊎-elim
@@ -228,7 +229,7 @@ held-lies a b t e =
     let over : tiles b (m .0) ≡ ancestor t (s .0) = ap locationTile (m .2) ∙ v .2 in
     (k .0, m .0, k .1, m .1, rw (is, over) (ancestor-holds t (s .0) (omega (arith, s .1))), is)
 
-module _ {a b out : List ℕ} {i j n : ℕ} (ra : Runs a) (rb : Runs b) (w : Walked a b out i j n)
+module _ {a b out : List ℕ} {i j n : ℕ} (ra : Runs a) (rb : Runs b) (w : BothWalked a b out i j n)
     (room : length a + length b ≤ length out) where
   within : n ≤ length out
   within = omega (arith, w .room, w .one .within, w .other .within)

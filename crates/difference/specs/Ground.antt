@@ -9,15 +9,15 @@ use native.Mathlib.Decide.{decLe}
 use native.Mathlib.Omega.{arith}
 use Rattle.bits.specs.Tests.{anyOf, in-any, any-in}
 use Rattle.tile.specs.declared.Tile.{Tile}
-use Rattle.tile_set.specs.Holds.{Holds, holds-refl, holds-trans, holds-both, holds-level, child-held, cut, parent-of-child, Valid}
+use Rattle.tile_set.specs.Holds.{Holds, holds-refl, holds-trans, holds-both, holds-level, child-held, in-a-child, parent-of-child, Valid}
 use Rattle.tile_set.specs.Holds.{valid-child}
 use Rattle.tile_set.specs.Set.{child, parentTile}
 use Rattle.difference.specs.Left.{holds, ofFour, leftOf, leftOfAll}
 use Rattle.difference.specs.Holding.{Bare, holds-true, true-holds, left-dropped, left-kept, left-four}
 
 -- a tile of the list holds c
-abbrev pub Covered : List Tile → Tile → Type 0
-Covered l c = (s : Tile) × List·Memᴰ s l × Holds s c
+abbrev pub HeldBy : List Tile → Tile → Type 0
+HeldBy l c = (s : Tile) × List·Memᴰ s l × Holds s c
 
 in-four : (f : Tile → List Tile) (t : Tile) {s : Tile} → List·Memᴰ s (ofFour f t)
     → (i : ℕ) × (j : ℕ) × (i < 2) × (j < 2) × List·Memᴰ s (f (child t i j))
@@ -92,12 +92,12 @@ module _ (D : ℕ) (gone : List Tile) (deep : (g : Tile) → List·Memᴰ g gone
   Spared c = (g : Tile) → List·Memᴰ g gone → Holds g c → ⊥
 
   module _ (c : Tile) (level : c .z ≡ D) where
-    covered-then : (d : ℕ) (t : Tile) → t .z + d ≡ D → Covered (leftOf d gone t) c → Holds t c × Spared c
-    covered-then = by-levels (λ d t. Covered (leftOf d gone t) c → Holds t c × Spared c) step
+    covered-then : (d : ℕ) (t : Tile) → t .z + d ≡ D → HeldBy (leftOf d gone t) c → Holds t c × Spared c
+    covered-then = by-levels (λ d t. HeldBy (leftOf d gone t) c → Holds t c × Spared c) step
       where
         step : (d : ℕ) (t : Tile) → t .z + d ≡ D → Way t d
-            → ((e : ℕ) → d ≡ suc e → (i j : ℕ) → i < 2 → j < 2 → Covered (leftOf e gone (child t i j)) c → Holds (child t i j) c × Spared c)
-            → Covered (leftOf d gone t) c → Holds t c × Spared c
+            → ((e : ℕ) → d ≡ suc e → (i j : ℕ) → i < 2 → j < 2 → HeldBy (leftOf e gone (child t i j)) c → Holds (child t i j) c × Spared c)
+            → HeldBy (leftOf d gone t) c → Holds t c × Spared c
         step d t e (dropped g n k f) below v = absurd (List·Memᴰ·not-nil (rw f at (v .1)))
         step d t e (kept bare none f) below v =
             let h : Holds t c = subst (λ (u : Tile). Holds u c) (List·Memᴰ·eq-of-singleton (rw f at (v .1))) (v .2) in
@@ -111,21 +111,21 @@ module _ (D : ℕ) (gone : List Tile) (deep : (g : Tile) → List·Memᴰ g gone
             let r = below b q (s .0) (s .1) (s .2) (s .3) (v .0, s .4, v .2) in
             (holds-trans (child-held t (s .0) (s .1) (s .2) (s .3)) (r .0), r .1)
 
-    then-covered : (d : ℕ) (t : Tile) → t .z + d ≡ D → Holds t c → Spared c → Covered (leftOf d gone t) c
-    then-covered = by-levels (λ d t. Holds t c → Spared c → Covered (leftOf d gone t) c) step
+    then-covered : (d : ℕ) (t : Tile) → t .z + d ≡ D → Holds t c → Spared c → HeldBy (leftOf d gone t) c
+    then-covered = by-levels (λ d t. Holds t c → Spared c → HeldBy (leftOf d gone t) c) step
       where
         step : (d : ℕ) (t : Tile) → t .z + d ≡ D → Way t d
-            → ((e : ℕ) → d ≡ suc e → (i j : ℕ) → i < 2 → j < 2 → Holds (child t i j) c → Spared c → Covered (leftOf e gone (child t i j)) c)
-            → Holds t c → Spared c → Covered (leftOf d gone t) c
+            → ((e : ℕ) → d ≡ suc e → (i j : ℕ) → i < 2 → j < 2 → Holds (child t i j) c → Spared c → HeldBy (leftOf e gone (child t i j)) c)
+            → Holds t c → Spared c → HeldBy (leftOf d gone t) c
         step d t e (dropped g n k f) below h w = absurd (w g n (holds-trans k h))
         step d t e (kept bare none f) below h w = (t, rw f (List·Memᴰ·head refl), h)
         step d t e (parted g n k b q f) below h w =
-            let s = cut h (omega arith) in
+            let s = in-a-child h (omega arith) in
             let r = below b q (s .0) (s .1) (s .2) (s .3) (s .4) w in
             (r .0, rw f (four-in (leftOf b gone) t (s .0) (s .1) (s .2) (s .3) (r .1)), r .2)
 
     pub left-covers : (t : Tile) → t .z ≤ D
-        → Covered (leftOf (D - t .z) gone t) c ↔ (Holds t c × ((g : Tile) → List·Memᴰ g gone → Holds g c → ⊥))
+        → HeldBy (leftOf (D - t .z) gone t) c ↔ (Holds t c × ((g : Tile) → List·Memᴰ g gone → Holds g c → ⊥))
     left-covers t h = (covered-then (D - t .z) t (omega arith), λ w. then-covered (D - t .z) t (omega arith) (w .0) (w .1))
 
   -- s is t, or its parent lies in t and holds a tile that is taken away

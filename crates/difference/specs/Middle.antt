@@ -14,7 +14,7 @@ use Rattle.difference.specs.Left.{leftOf, leftOfAll, leftAt, without}
 use Rattle.difference.specs.Walk.{Come, Wrote, Walked, behind-none, come-on, wrote-none, wrote-both}
 
 -- the walk has come to the start of each tile that is not walked yet
-pub record Mid (kept gone before after : List ℕ) (i next count : ℕ) : Type 0 where
+pub record WalkedTo (kept gone before after : List ℕ) (i next count : ℕ) : Type 0 where
   pub come : (j : ℕ) → i ≤ j → j < length kept → Come gone (startOf (tiles kept j)) next count
   pub wrote : Wrote (without (take i kept) gone) 0 count before after
 
@@ -32,7 +32,7 @@ without-next kept gone i h =
     (left-last maxZoom (map locationTile gone) (map locationTile (take i kept)) (tiles kept i))
 
 module _ (kept gone before : List ℕ) where
-  pub begun : Mid kept gone before before 0 0 0
+  pub begun : WalkedTo kept gone before before 0 0 0
   unfolding leftOfAll
   begun = record {
     come = λ j a b. record { behind = behind-none gone (startOf (tiles kept j)); few = omega arith };
@@ -40,9 +40,9 @@ module _ (kept gone before : List ℕ) where
         wrote-none 0 before;
   }
 
-  module _ (after : List ℕ) (i next count : ℕ) (m : Mid kept gone before after i next count) where
+  module _ (after : List ℕ) (i next count : ℕ) (m : WalkedTo kept gone before after i next count) where
     pub moved : Runs kept → i < length kept → (low n c : ℕ) (l : List ℕ) → low ≡ lowOf (tiles kept i)
-        → Walked (leftAt gone (getD kept i 0)) gone (getD kept i 0 + low) count after l n c → Mid kept gone before l (i + 1) n c
+        → Walked (leftAt gone (getD kept i 0)) gone (getD kept i 0 + low) count after l n c → WalkedTo kept gone before l (i + 1) n c
     moved runs h low n c l e w = record {
       come = λ j a b. come-on (w .come) (omega (arith, runs .each i h .again, runs .rise i j (omega arith) b));
       wrote = rw (without-next kept gone i h) (wrote-both (m .wrote) (w .wrote));

@@ -20,14 +20,14 @@ use Rattle.difference.specs.Holding.{left-dropped, left-kept, left-four}
 use Rattle.difference.specs.Walk.{Behind}
 
 -- the runs of s and t do not meet
-abbrev pub Apart : Tile → Tile → Type 0
-Apart s t = (endOf s ≤ startOf t) ⊎ (endOf t ≤ startOf s)
+abbrev pub RunsApart : Tile → Tile → Type 0
+RunsApart s t = (endOf s ≤ startOf t) ⊎ (endOf t ≤ startOf s)
 
-swapped : (s t : Tile) → Apart s t → Apart t s
+swapped : (s t : Tile) → RunsApart s t → RunsApart t s
 swapped s t (inl h) = inr h
 swapped s t (inr h) = inl h
 
-not-held : {s t : Tile} → OfMap t → Apart s t → Holds s t → ⊥
+not-held : {s t : Tile} → OfMap t → RunsApart s t → Holds s t → ⊥
 not-held {s} {t} o (inl a) h = let r = held-run h o in omega (arith, low-pos t, r .0, r .1)
 not-held {s} {t} o (inr a) h = let r = held-run h o in omega (arith, low-pos t, r .0, r .1)
 
@@ -58,7 +58,7 @@ module _ (l : List ℕ) (runs : Runs l) (t : Tile) (o : OfMap t) (d : ℕ) where
   of-map : (i : ℕ) → i < length l → OfMap (tiles l i)
   of-map i h = runs .each i h .of-map
 
-  none-touch : ((i : ℕ) → i < length l → Apart (tiles l i) t) → leftOf d (map locationTile l) t ≡ t ∷ []
+  none-touch : ((i : ℕ) → i < length l → RunsApart (tiles l i) t) → leftOf d (map locationTile l) t ≡ t ∷ []
   none-touch f =
       left-kept (map locationTile l) t d
       (λ g m h. let s = gone-at l m in not-held o (f (s .0) (s .1)) (rw (s .2) at h))
@@ -72,7 +72,7 @@ module _ (l : List ℕ) (runs : Runs l) (t : Tile) (o : OfMap t) (d : ℕ) where
       pub before-next : endOf t ≤ startOf (tiles l next) → leftOf d (map locationTile l) t ≡ t ∷ []
       before-next k = none-touch (λ i a. pick i a (decLt i next) (decLt next i))
         where
-          pick : (i : ℕ) → i < length l → Dec (i < next) → Dec (next < i) → Apart (tiles l i) t
+          pick : (i : ℕ) → i < length l → Dec (i < next) → Dec (next < i) → RunsApart (tiles l i) t
           pick i a (yes p) q = inl (b .each i p)
           pick i a (no p) (yes q) = inr (omega (arith, runs .rise next i q a, low-pos (tiles l next)))
           pick i a (no p) (no q) = let e : i ≡ next = omega arith in rw e (inr k)

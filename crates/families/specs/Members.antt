@@ -12,7 +12,7 @@ use Rattle.families.specs.Join.{fourFrom, joinAfter, joinOf}
 use Rattle.families.specs.Laws.{Four, four-true, true-four, join-cons, join-four}
 
 -- the list holds the four children of p, the first of them from `from` on
-pub record Family (from p : ℕ) (l : List ℕ) : Type 0 where
+pub record FourChildren (from p : ℕ) (l : List ℕ) : Type 0 where
   pub above : from ≤ 4 * p
   pub each : (i : ℕ) → i < 4 → List·Memᴰ (4 * p + i) l
 
@@ -67,7 +67,7 @@ run {q} l r a b c = two (next l r a)
             four (i, g) = (i, e ∙ ap (λ (m : List ℕ). suc q ∷ m) (f ∙ ap (λ (m : List ℕ). suc (suc q) ∷ m) g))
 
 -- a family of which the first number is one begins the list
-family-first : (from p q : ℕ) (l : List ℕ) → Rising (q ∷ l) → Family from p (q ∷ l) → q / 4 ≡ p → fourFrom from (q ∷ l) ≡ true
+family-first : (from p q : ℕ) (l : List ℕ) → Rising (q ∷ l) → FourChildren from p (q ∷ l) → q / 4 ≡ p → fourFrom from (q ∷ l) ≡ true
 family-first from p q l r f e =
     here (run l r (later (suc q) 1 (omega (arith, start)) (omega arith, omega arith))
     (later (suc (suc q)) 2 (omega (arith, start)) (omega arith, omega arith))
@@ -113,7 +113,7 @@ begun from q l r e = pick l r (four-true from (q ∷ l) e)
 
 -- what the pass leaves
 abbrev pub Left : ℕ → ℕ → List ℕ → Type 0
-Left from n l = (List·Memᴰ n l × (Family from (n / 4) l → ⊥)) ⊎ Family from n l
+Left from n l = (List·Memᴰ n l × (FourChildren from (n / 4) l → ⊥)) ⊎ FourChildren from n l
 
 -- a family in front of a list: the numbers behind it have nothing to do with it
 module _ (from q : ℕ) (k : List ℕ) (r : Rising (q ∷ (suc q ∷ (suc (suc q) ∷ (suc (suc (suc q)) ∷ k))))) (z : q % 4 ≡ 0) where
@@ -135,13 +135,13 @@ module _ (from q : ℕ) (k : List ℕ) (r : Rising (q ∷ (suc q ∷ (suc (suc q
   into : {n : ℕ} → List·Memᴰ n k → List·Memᴰ n whole
   into m = List·Memᴰ·tail (List·Memᴰ·tail (List·Memᴰ·tail (List·Memᴰ·tail m)))
 
-  family-into : (p : ℕ) → Family from p k → Family from p whole
+  family-into : (p : ℕ) → FourChildren from p k → FourChildren from p whole
   family-into p f = record { above = f .above; each = λ i h. into (f .each i h) }
 
-  family-behind : (p : ℕ) → q + 3 < 4 * p → Family from p whole → Family from p k
+  family-behind : (p : ℕ) → q + 3 < 4 * p → FourChildren from p whole → FourChildren from p k
   family-behind p h f = record { above = f .above; each = λ i l. deep (4 * p + i) (omega arith) (f .each i l) }
 
-  own : from ≤ q → Family from (q / 4) whole
+  own : from ≤ q → FourChildren from (q / 4) whole
   own h = record { above = omega arith; each = λ i l. pick i l }
     where
       pick : (i : ℕ) → i < 4 → List·Memᴰ (4 * (q / 4) + i) whole
@@ -170,10 +170,10 @@ module _ (from q : ℕ) (k : List ℕ) (r : Rising (q ∷ (suc q ∷ (suc (suc q
 
 -- a number in front that begins no family
 module _ (from q : ℕ) (l : List ℕ) (r : Rising (q ∷ l)) (n4 : fourFrom from (q ∷ l) ≡ false) where
-  no-family : Family from (q / 4) (q ∷ l) → ⊥
+  no-family : FourChildren from (q / 4) (q ∷ l) → ⊥
   no-family f = let t = family-first from (q / 4) q l r f refl in let c : _≡_ {A = ℕ} 0 1 = cc in omega arith
 
-  off : (p : ℕ) → Family from p (q ∷ l) → Family from p l
+  off : (p : ℕ) → FourChildren from p (q ∷ l) → FourChildren from p l
   off p f = record { above = f .above; each = λ i h. behind (past i) (f .each i h) }
     where
       least : q ≤ 4 * p + 0
@@ -189,7 +189,7 @@ module _ (from q : ℕ) (l : List ℕ) (r : Rising (q ∷ l)) (n4 : fourFrom fro
           pick (yes h) = h
           pick (no h) = absurd (apart (omega (arith, least)))
 
-  on : (p : ℕ) → Family from p l → Family from p (q ∷ l)
+  on : (p : ℕ) → FourChildren from p l → FourChildren from p (q ∷ l)
   on p f = record { above = f .above; each = λ i h. List·Memᴰ·tail (f .each i h) }
 
   left-on : (n : ℕ) → Left from n l → Left from n (q ∷ l)
@@ -304,11 +304,11 @@ pub join-length : (from : ℕ) (l : List ℕ) → length (joinOf from l) ≤ len
 join-length from l = after-length from 0 l
 
 -- a family makes the list shorter, and without one it stays as it is
-pub join-shorter : (from p : ℕ) (l : List ℕ) → Rising l → Family from p l → length (joinOf from l) < length l
+pub join-shorter : (from p : ℕ) (l : List ℕ) → Rising l → FourChildren from p l → length (joinOf from l) < length l
 join-shorter from p [] r f = absurd (List·Memᴰ·not-nil (f .each 0 (omega arith)))
 join-shorter from p (q ∷ l) r f = pick (fourFrom from (q ∷ l)) refl (join-shorter from p l (rising-rest q l r))
   where
-    pick : (b : Bool) → fourFrom from (q ∷ l) ≡ b → (Family from p l → length (joinOf from l) < length l)
+    pick : (b : Bool) → fourFrom from (q ∷ l) ≡ b → (FourChildren from p l → length (joinOf from l) < length l)
         → length (joinOf from (q ∷ l)) < length (q ∷ l)
     pick true e below =
         let b = begun from q l r e in
@@ -318,12 +318,13 @@ join-shorter from p (q ∷ l) r f = pick (fourFrom from (q ∷ l)) refl (join-sh
         rw f (omega (arith, join-length from (b .rest)))
     pick false e below = rw (join-cons from q l e) (omega (arith, below (off from q l r e p f)))
 
-pub join-same : (from : ℕ) (l : List ℕ) → Rising l → ((p : ℕ) → Family from p l → ⊥) → joinOf from l ≡ l
+pub join-same : (from : ℕ) (l : List ℕ) → Rising l → ((p : ℕ) → FourChildren from p l → ⊥) → joinOf from l ≡ l
 unfolding joinAfter
 join-same from [] r n = refl
 join-same from (q ∷ l) r n = pick (fourFrom from (q ∷ l)) refl (join-same from l (rising-rest q l r))
   where
-    pick : (b : Bool) → fourFrom from (q ∷ l) ≡ b → (((p : ℕ) → Family from p l → ⊥) → joinOf from l ≡ l) → joinOf from (q ∷ l) ≡ q ∷ l
+    pick : (b : Bool) → fourFrom from (q ∷ l) ≡ b → (((p : ℕ) → FourChildren from p l → ⊥) → joinOf from l ≡ l)
+        → joinOf from (q ∷ l) ≡ q ∷ l
     pick true e below = let b = begun from q l r e in
         absurd (n (q / 4) (rw (b .split) (own from q (b .rest) (rw (b .split) at r) (b .first) (b .above))))
     pick false e below = join-cons from q l e ∙ ap (λ (k : List ℕ). q ∷ k) (below (λ p f. n p (on from q l r e p f)))

@@ -22,7 +22,7 @@ use Rattle.tile_set.specs.Merged.{whole-all, joins-when, joined-when, merged-ca
 use Rattle.tile_set.specs.Merged.{joins-joined, is-false, bool-ext}
 use Rattle.tile_set.specs.Set.{parentTile, child, joins, joined, merged}
 use Rattle.families.specs.Join.{firstMorton, joinOf}
-use Rattle.families.specs.Members.{Family, Left, join-leaves, join-keeps, join-same, join-shorter}
+use Rattle.families.specs.Members.{FourChildren, Left, join-leaves, join-keeps, join-same, join-shorter}
 
 -- the first Morton code tells the zooms above m
 first-below : (t : Tile) (m : ℕ) → OfMap t → m < t .z → firstMorton m ≤ mortonOf t
@@ -57,7 +57,7 @@ module _ (m : ℕ) (l : List ℕ) (q : TileNumbers mortonOf l) where
   in-morton t o k = names mortonTile l (mortonOf t) t k (morton-tile t o)
 
   -- a family of Morton codes is the four children of one tile
-  family-at : (P : Tile) → OfMap P → P .z < maxZoom → Family (firstMorton m) (mortonOf P) l → joined m S P ≡ true
+  family-at : (P : Tile) → OfMap P → P .z < maxZoom → FourChildren (firstMorton m) (mortonOf P) l → joined m S P ≡ true
   family-at P o h f =
       joined-when m S P .1 (
         let k = first-above (child P 0 0) m (kid 0 0 (omega arith) (omega arith))
@@ -69,7 +69,7 @@ module _ (m : ℕ) (l : List ℕ) (q : TileNumbers mortonOf l) where
       kid : (i j : ℕ) → i < 2 → j < 2 → OfMap (child P i j)
       kid i j a b = map-tile (child P i j) (valid-child i j (valid-tile P o) h a b)
 
-  parent-of : (p : ℕ) → Family (firstMorton m) p l → (P : Tile) × OfMap P × (p ≡ mortonOf P) × (joined m S P ≡ true)
+  parent-of : (p : ℕ) → FourChildren (firstMorton m) p l → (P : Tile) × OfMap P × (p ≡ mortonOf P) × (joined m S P ≡ true)
   parent-of p f =
       let s = q (4 * p + 0) (f .each 0 (omega arith)) in
       let c = s .tile in
@@ -82,7 +82,7 @@ module _ (m : ℕ) (l : List ℕ) (q : TileNumbers mortonOf l) where
       (parentTile c, o, k, family-at (parentTile c) o (omega arith) (rw k at f))
 
   -- four children in the set are a family of Morton codes
-  family-of : (P : Tile) → joined m S P ≡ true → Family (firstMorton m) (mortonOf P) l
+  family-of : (P : Tile) → joined m S P ≡ true → FourChildren (firstMorton m) (mortonOf P) l
   family-of P e = record { above = least; each = λ i h. there i h }
     where
       kid : (a b : ℕ) → a < 2 → b < 2 → S (child P a b) ≡ true
@@ -130,7 +130,7 @@ module _ (m : ℕ) (l : List ℕ) (q : TileNumbers mortonOf l) where
         pick : ((S t ≡ true) × (joins m S t ≡ false)) ⊎ (joined m S t ≡ true) → OfMap t × Left (firstMorton m) (mortonOf t) l
         pick (inl (h, j)) = (morton-in t h .0, inl (morton-in t h .1, alone))
           where
-            alone : Family (firstMorton m) (mortonOf t / 4) l → ⊥
+            alone : FourChildren (firstMorton m) (mortonOf t / 4) l → ⊥
             alone f =
                 let d : m < t .z = first-above t m (morton-in t h .0) (omega (arith, f .above)) in
                 let g : mortonOf t / 4 ≡ mortonOf (parentTile t) = four-codes t (omega arith) .0 in

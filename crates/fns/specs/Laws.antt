@@ -109,8 +109,8 @@ same-scaled a b i = pick (eqb a b) refl
     pick false e = ne-eqb _ _ (λ f. eqb-false _ _ e (sym (shl-shr a i) ∙ (ap (λ (n : ℕ). n / 2 ^ i) f ∙ shl-shr b i)))
 
 -- a mask of one bit tells two numbers apart where that bit does
-pub masked : (a b z : ℕ) → not (eqb (bitAnd a (2 ^ (32 - (z + 1)))) (bitAnd b (2 ^ (32 - (z + 1))))) ≡ differ a b (31 - z)
-masked a b z =
+pub mask-tells-apart : (a b z : ℕ) → not (eqb (bitAnd a (2 ^ (32 - (z + 1)))) (bitAnd b (2 ^ (32 - (z + 1))))) ≡ differ a b (31 - z)
+mask-tells-apart a b z =
     let e : 32 - (z + 1) ≡ 31 - z = omega arith in
     let i = 31 - z in
     rw (e, bit-masked a i, bit-masked b i, same-scaled (bit a i) (bit b i) i)

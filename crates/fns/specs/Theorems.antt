@@ -18,7 +18,7 @@ use Rattle.tile.specs.Rust.{To29, to-29-on-map, accepted, rustFlipy}
 use Rattle.tile.specs.Theorems.{power-fits, rust-flipped-row}
 use Rattle.tile.specs.declared.Tile.{Tile}
 use Rattle.fns.specs.Fns.{minMaxOf, isTile, flipyOf, parentRefusal, parentOf, differ, firstZoom, bbox2zoomOf}
-use Rattle.fns.specs.Laws.{First, first-zoom, one-first, masked, half-on-map, parent-step, nearest-parent}
+use Rattle.fns.specs.Laws.{First, first-zoom, one-first, mask-tells-apart, half-on-map, parent-step, nearest-parent}
 use Rattle.fns.specs.Rust.{rustMinmax, rustValid, rustParent, noneIsThree, rustZooms, rustBbox2zoom}
 
 -- "n is extra steps, not a zoom; the answer has zoom z − 1 − n and x, y shifted by 1 + n"
@@ -144,9 +144,9 @@ pub minmax-are-the-ends : (z : ℕ) → z ≤ maxZoom
 minmax-are-the-ends z h = rw (le-ltb _ _ h) (refl, λ x. (λ l. (omega arith, omega arith), λ k. omega (arith, k .1, pow-pos z)))
 
 -- a row that is flipped twice is the row
-pub flipped-twice : (y z : ℕ) → z ≤ maxZoom → y < 2 ^ z
+pub row-flipped-twice : (y z : ℕ) → z ≤ maxZoom → y < 2 ^ z
     → (f : ℕ) × (flipyOf y z ≡ record { number = 0; value = f }) × (f < 2 ^ z) × (flipyOf f z ≡ record { number = 0; value = y })
-flipped-twice y z h l =
+row-flipped-twice y z h l =
     let f = 2 ^ z - 1 - y in
     let k : f < 2 ^ z = omega arith in
     let e : 2 ^ z - 1 - f ≡ y = omega arith in
@@ -209,8 +209,8 @@ zooms-first west south east north (suc turns) z e =
       fits 8 (z + 1) (omega arith),
       minus-fits 32 (z + 1) (omega arith),
       one-shifted 32 (32 - (z + 1)) (omega arith),
-      masked west east z,
-      masked south north z,
+      mask-tells-apart west east z,
+      mask-tells-apart south north z,
       zooms-first west south east north turns (suc z) (omega arith),
     ) (pick (differ west east (31 - z) || differ south north (31 - z)) _)
   where

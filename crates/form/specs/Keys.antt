@@ -144,13 +144,13 @@ keys-not-empty [] rest a = cons≢nil (a .spelled)
 keys-not-empty (key ∷ keys) rest a = cons≢nil (a .spelled)
 
 -- how far the keys have been read: the bytes hold keys just where what is left of them does
-pub record Passed (at : ℕ) (bytes : List ℕ) : Type 0 where
+pub record KeysRead (at : ℕ) (bytes : List ℕ) : Type 0 where
   pub within : at ≤ length bytes
   pub forth : (keys : List (List ℕ)) (rest : List ℕ) → KeysFirst keys rest (drop at bytes)
       → (all : List (List ℕ)) × KeysFirst all rest bytes
   pub back : (all : List (List ℕ)) (rest : List ℕ) → KeysFirst all rest bytes → (keys : List (List ℕ)) × KeysFirst keys rest (drop at bytes)
 
-pub passed-none : (bytes : List ℕ) → Passed 0 bytes
+pub passed-none : (bytes : List ℕ) → KeysRead 0 bytes
 passed-none bytes = record { within = omega arith; forth = λ keys rest a. (keys, a); back = λ keys rest a. (keys, a) }
 
 pub key-within : (bytes : List ℕ) → keyLength bytes ≤ length bytes
@@ -166,8 +166,8 @@ key-within (b ∷ bs) = pick (eqb b space) (runLength bs) (run-within bs)
     pick true n h = omega (arith, short n)
     pick false n h = omega arith
 
-module _ (at : ℕ) (bytes : List ℕ) (p : Passed at bytes) where
-  pub passed-key : (n : ℕ) → keyLength (drop at bytes) ≡ suc n → Passed (at + suc n) bytes
+module _ (at : ℕ) (bytes : List ℕ) (p : KeysRead at bytes) where
+  pub passed-key : (n : ℕ) → keyLength (drop at bytes) ≡ suc n → KeysRead (at + suc n) bytes
   passed-key n e =
       let k = key-first (drop at bytes) n e in
       let f : drop (suc n) (drop at bytes) ≡ drop (at + suc n) bytes = drop-drop (suc n) at bytes in
@@ -177,7 +177,7 @@ module _ (at : ℕ) (bytes : List ℕ) (p : Passed at bytes) where
         back = λ all rest a. let b = p .back all rest a in let c = one-key-less _ _ _ k (b .0) rest (b .1) in (c .0, rw (← f) (c .2));
       }
 
-  pub passed-some : (n : ℕ) → keyLength (drop at bytes) ≡ n → (n ≡ 0 → ⊥) → Passed (at + n) bytes
+  pub passed-some : (n : ℕ) → keyLength (drop at bytes) ≡ n → (n ≡ 0 → ⊥) → KeysRead (at + n) bytes
   passed-some zero e d = absurd (d refl)
   passed-some (suc n) e d = passed-key n e
 

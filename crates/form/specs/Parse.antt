@@ -10,7 +10,7 @@ use Rattle.form.specs.Ends.{FormEnds, PairEnds, KeysEnds, Opened, opened
 use Rattle.form.specs.Ends.{form-pair}
 use Rattle.form.specs.Form.{space, closing, Form, tiles, pair}
 use Rattle.form.specs.Front.{KeysFirst, PairFirst}
-use Rattle.form.specs.Keys.{Passed, passed-none, passed-key, keys-closed, keys-broken, keys-past}
+use Rattle.form.specs.Keys.{KeysRead, passed-none, passed-key, keys-closed, keys-broken, keys-past}
 use Rattle.form.specs.Pairs.{no-left, no-space, no-right, no-closing, a-pair}
 use Rattle.form.specs.Words.{tilesFront, pairFront, wordAt, keyLength}
 use Rattle.form.specs.declared.End.{End}
@@ -20,14 +20,14 @@ use Rattle.form.specs.declared.Word.{Word}
 use Rattle.form.specs.declared.Word.the-variants as word
 
 module _ (bytes : List ℕ) where
-  next : (n at : ℕ) → Passed at bytes → ((k : ℕ) → keyLength (drop at bytes) ≡ suc k → (e : End) × KeysEnds e bytes)
+  next : (n at : ℕ) → KeysRead at bytes → ((k : ℕ) → keyLength (drop at bytes) ≡ suc k → (e : End) × KeysEnds e bytes)
       → Dec (at < length bytes) → Dec (getD bytes at 0 ≡ closing) → (l : ℕ) → keyLength (drop at bytes) ≡ l → (e : End) × KeysEnds e bytes
   next n at p on (no h) c l e = (Nowhere, keys-past at bytes p (omega arith))
   next n at p on (yes h) (yes c) l e = (At (at + 1), keys-closed at bytes p h c)
   next n at p on (yes h) (no d) zero e = (Nowhere, keys-broken at bytes p h d e)
   next n at p on (yes h) (no d) (suc k) e = on k e
 
-  from : (n at : ℕ) → Passed at bytes → length bytes < at + n → (e : End) × KeysEnds e bytes
+  from : (n at : ℕ) → KeysRead at bytes → length bytes < at + n → (e : End) × KeysEnds e bytes
   from zero at p h = absurd (omega (arith, h, p .within))
   from (suc n) at p h =
       next n at p (λ k e. from n (at + suc k) (passed-key at bytes p k e) (omega (arith, h))) (decLt at (length bytes))

@@ -22,8 +22,8 @@ use Rattle.constants.specs.Limits.{maxZoom}
 abbrev pub valued : Count → List ℕ → Answer (List ℕ)
 valued r memory = record { number = countCase r .number; value = take (countCase r .value) memory }
 
-abbrev pub Within : Count → List ℕ → Type 0
-Within r memory = countCase r .value ≤ length memory
+abbrev pub CountFits : Count → List ℕ → Type 0
+CountFits r memory = countCase r .value ≤ length memory
 
 -- two calls that give the same, after the same refusals before them
 same-given : (refusal : ℕ) (r s : Lent ℕ) (n : ℕ) (items : List ℕ) → Gives r n items → Gives s n items
@@ -40,7 +40,7 @@ given-items r n items a = ap₂ (λ (k : ℕ) (l : List ℕ). answer k [] l) (a 
 
 -- a call's answer as the code has it
 module _ (r : Count) (exit : List ℕ) (c : Lent ℕ) (e : left r exit ≡ c) (n : ℕ) (items : List ℕ) (a : Gives c n items) where
-  pub call-within : Within r exit
+  pub call-within : CountFits r exit
   call-within = rw (ap (λ (l : Lent ℕ). l .value) e, ap (λ (l : Lent ℕ). l .memory) e) (a .within)
 
   pub call-valued : valued r exit ≡ areaGiven 0 c

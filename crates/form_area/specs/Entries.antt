@@ -34,9 +34,9 @@ Entered (count.Counted n) runs entries =
 Entered (count.Refused why) runs entries = numberOf why ≡ keysRefusal runs
 
 -- one key more: bad, or its entry in place n if there is one
-abbrev pub Kept : Check → List ℕ → ℕ → List ℕ → List ℕ → Type 0
-Kept check.Fine run n before after = (keyRefusal (keyOfRun run) ≡ 0) × (after ≡ set before n (keyEntry (keyOfRun run)))
-Kept (check.Refused why) run n before after = numberOf why ≡ keyRefusal (keyOfRun run)
+abbrev pub OneEntered : Check → List ℕ → ℕ → List ℕ → List ℕ → Type 0
+OneEntered check.Fine run n before after = (keyRefusal (keyOfRun run) ≡ 0) × (after ≡ set before n (keyEntry (keyOfRun run)))
+OneEntered (check.Refused why) run n before after = numberOf why ≡ keyRefusal (keyOfRun run)
 
 -- no bad key among the first ones
 pub keys-refusal-append : (done runs : List (List ℕ)) → keysRefusal done ≡ 0 → keysRefusal (done ++ runs) ≡ keysRefusal runs
@@ -150,7 +150,7 @@ module _ (at n : ℕ) (entries body : List ℕ) (runs : List (List ℕ)) (e : En
   all-again : (k : NextKey at body (e .rest)) → e .done ++ k .run ∷ k .more ≡ runs
   all-again k = ap (λ (l : List (List ℕ)). e .done ++ l) (sym (k .split)) ∙ e .all
 
-  pub one-entered : (k : NextKey at body (e .rest)) (after : List ℕ) → Kept check.Fine (k .run) n entries after
+  pub one-entered : (k : NextKey at body (e .rest)) (after : List ℕ) → OneEntered check.Fine (k .run) n entries after
       → Entering (at + suc (length (k .run))) (n + 1) after body runs
   one-entered k after (f, g) = record {
     done = e .done ++ (k .run ∷ []);
@@ -164,7 +164,8 @@ module _ (at n : ℕ) (entries body : List ℕ) (runs : List (List ℕ)) (e : En
     entered = λ h. one-more-entry (e .done) (k .run) n entries after g (e .entered) h;
   }
 
-  pub bad-entered : (k : NextKey at body (e .rest)) (why : Refusal) (after : List ℕ) → Kept (check.Refused why) (k .run) n entries after
+  pub bad-entered : (k : NextKey at body (e .rest)) (why : Refusal) (after : List ℕ)
+      → OneEntered (check.Refused why) (k .run) n entries after
       → Entered (count.Refused why) runs after
   bad-entered k why after f =
       sym (sym (ap keysRefusal (all-again k))
@@ -195,11 +196,12 @@ module _ (at n : ℕ) (entries body : List ℕ) (b : Begun at n entries body) (h
     coming-part : take (at + r - (at + 1)) (drop (at + 1) body) ≡ coming .run
     coming-part = let f : at + r - (at + 1) ≡ length (coming .run) = omega (arith, coming-length) in rw f (coming .part)
 
-    pub key-begun : (c : Check) (after : List ℕ) → Kept c (take (at + r - (at + 1)) (drop (at + 1) body)) n entries after → c ≡ check.Fine
+    pub key-begun : (c : Check) (after : List ℕ) → OneEntered c (take (at + r - (at + 1)) (drop (at + 1) body)) n entries after
+        → c ≡ check.Fine
         → Begun (at + r) (n + 1) after body
     key-begun c after k f =
-        let l = subst (λ (x : Check). Kept x (coming .run) n entries after) f
-        (subst (λ (x : List ℕ). Kept c x n entries after) coming-part k) in (
+        let l = subst (λ (x : Check). OneEntered x (coming .run) n entries after) f
+        (subst (λ (x : List ℕ). OneEntered c x n entries after) coming-part k) in (
           b .0,
           b .1,
           subst (λ (x : ℕ). Entering (at + x) (n + 1) after body (b .0)) (sym coming-length)
@@ -207,9 +209,9 @@ module _ (at n : ℕ) (entries body : List ℕ) (b : Begun at n entries body) (h
         )
 
     pub key-refused : (c : Check) (why : Refusal) (after : List ℕ)
-        → Kept c (take (at + r - (at + 1)) (drop (at + 1) body)) n entries after → c ≡ check.Refused why
+        → OneEntered c (take (at + r - (at + 1)) (drop (at + 1) body)) n entries after → c ≡ check.Refused why
         → (others : List (List ℕ)) → KeysFirst others [] body → Entered (count.Refused why) others after
     key-refused c why after k f =
-        let l = subst (λ (x : Check). Kept x (coming .run) n entries after) f
-        (subst (λ (x : List ℕ). Kept c x n entries after) coming-part k) in
+        let l = subst (λ (x : Check). OneEntered x (coming .run) n entries after) f
+        (subst (λ (x : List ℕ). OneEntered c x n entries after) coming-part k) in
         whichever (count.Refused why) after body (b .0) (b .1) (bad-entered at n entries body (b .0) (b .2) coming why after l)

@@ -14,7 +14,7 @@ use Rattle.form.specs.declared.Verb.{Verb}
 use Rattle.form.specs.declared.Word.the-variants as word
 use Rattle.form_area.specs.Area.{formArea}
 use Rattle.form_area.specs.Areas.{left-part, right-part, pair-long}
-use Rattle.form_area.specs.Calls.{valued, Within}
+use Rattle.form_area.specs.Calls.{valued, CountFits}
 use Rattle.form_area.specs.Entries.{Entered}
 
 -- a form takes all of the line
@@ -31,15 +31,15 @@ KeysSpelled body = (runs : List (List ℕ)) × KeysFirst runs [] body
 
 -- the area stands at the front of the memory
 pub record OfForm (line : List ℕ) (r : Count) (memory : List ℕ) : Type 0 where
-  pub within : Within r memory
+  pub within : CountFits r memory
   pub area : (f : Form) → Reads line f → valued r memory ≡ formArea f
 
 pub record OfPair (verb : Verb) (body : List ℕ) (r : Count) (memory : List ℕ) : Type 0 where
-  pub within : Within r memory
+  pub within : CountFits r memory
   pub area : (f g : Form) → PairFirst f g [] body → valued r memory ≡ formArea (pair verb f g)
 
 pub record OfKeys (body : List ℕ) (r : Count) (memory : List ℕ) : Type 0 where
-  pub within : Within r memory
+  pub within : CountFits r memory
   pub area : (runs : List (List ℕ)) → KeysFirst runs [] body → valued r memory ≡ formArea (tiles runs)
 
 abbrev pub AllEntered : List ℕ → Count → List ℕ → Type 0

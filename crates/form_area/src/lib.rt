@@ -15,7 +15,7 @@ ghost use Rattle.constants.specs.Limits.{maxLine, formPlaces};
 ghost use Rattle.errors.specs.Answer.{written as Answer·written};
 ghost use Rattle.errors.specs.Cases.{left};
 ghost use Rattle.form_area.specs.Area.{areaWritten, isDash, keyOfRun, operated};
-ghost use Rattle.form_area.specs.Entries.{Kept};
+ghost use Rattle.form_area.specs.Entries.{OneEntered};
 ghost use Rattle.form_area.specs.Promised.{Spelled, PairSpelled, KeysSpelled, OfForm, OfPair, OfKeys, AllEntered, LeftLength};
 ghost use Rattle.quadkey.specs.Key.{keyTile};
 ghost use Rattle.tile.specs.OnMap.{tileCase};
@@ -141,7 +141,7 @@ fn enter(body: &[u8], entries: &mut [u64]) -> Count
 
 // The entry of the n-th key goes to its place, if there is one.
 fn keep(run: &[u8], n: usize, entries: &mut [u64]) -> Check
-    ensures { λ r. ⌜ Kept r (now (run .entry)) n (now (entries .entry)) (now (entries .exit)) ⌝ }
+    ensures { λ r. ⌜ OneEntered r (now (run .entry)) n (now (entries .entry)) (now (entries .exit)) ⌝ }
 {
     match tile_of(run) {
         TileAnswer::Found(t) => {

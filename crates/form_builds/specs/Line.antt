@@ -7,7 +7,7 @@ use native.Mathlib.Omega.{arith}
 use Rattle.area.specs.Area.{groundOf, settledEntries}
 use Rattle.area.specs.Grounds.{settled-ground}
 use Rattle.builds.specs.Build.{Build}
-use Rattle.builds.specs.Demand3.{Answered, answer, kept, an-answer-is-the-list-asked-for}
+use Rattle.builds.specs.Demand3.{Answered, callAnswer, kept, an-answer-is-the-list-asked-for}
 use Rattle.constants.specs.Limits.{maxZoom}
 use Rattle.errors.specs.Answer.{Answer}
 use Rattle.form.specs.Form.{Form, Reads}
@@ -29,7 +29,7 @@ lastOf f = last 0 f
 pub record AnswerOfBuild (f : Form) (list : List ℕ) : Type 0 where
   -- the list is the answer of the last call of the form's build
   pub answered : Answered (buildOf f) (lastOf f)
-  pub its-list : list ≡ answer (buildOf f) (lastOf f)
+  pub its-list : list ≡ callAnswer (buildOf f) (lastOf f)
   -- and the settled list of what the plain account, fed with the calls alone, keeps for that call
   pub its-ground : list ≡ settledEntries (kept (buildOf f) (lastOf f) .set)
   -- which is the set that the form's words say

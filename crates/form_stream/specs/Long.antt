@@ -15,13 +15,13 @@ use Rattle.form_area.specs.Area.{lineArea}
 use Rattle.form_stream.specs.Stream.{reply, lastReply, said, ended, soFar}
 
 -- "13 over 4,096 bytes", whatever they are
-pub too-long : (line : List ℕ) → maxLine < length line → lineArea line ≡ record { number = 13; value = [] }
+pub line-over-limit : (line : List ℕ) → maxLine < length line → lineArea line ≡ record { number = 13; value = [] }
 unfolding lineArea
-too-long line h = rw (lt-ltb _ _ h)
+line-over-limit line h = rw (lt-ltb _ _ h)
 
 long-reply : (a b : List ℕ) → maxLine < length a → maxLine < length b → reply a ≡ reply b
 unfolding reply
-long-reply a b h k = rw (too-long a h, too-long b k)
+long-reply a b h k = rw (line-over-limit a h, line-over-limit b k)
 
 long-last : (a b : List ℕ) → maxLine < length a → maxLine < length b → lastReply a ≡ lastReply b
 long-last [] b h k = absurd (omega arith)

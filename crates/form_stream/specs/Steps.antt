@@ -32,7 +32,7 @@ pub record Takes (chunk : List ℕ) (from : ℕ) (line : List ℕ) (len : ℕ) (
   pub onward : from ≤ r .at
   pub within : r .len ≤ length after
 
-pub record Ends (chunk : List ℕ) (at : ℕ) : Type 0 where
+pub record LineEnds (chunk : List ℕ) (at : ℕ) : Type 0 where
   pub within : at ≤ length chunk
   pub stops : at < length chunk → getD chunk at 0 ≡ newline
 

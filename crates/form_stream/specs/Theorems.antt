@@ -85,15 +85,16 @@ pub data Turns (chunk : List ℕ) : ℕ → List ℕ → List ℕ → List ℕ �
       → Turns chunk at (take len line) (printedBy (feedOf chunk at len line out) ++ printed) last
 
 -- the calls over all chunks, and the last one
-pub data Runs : List ℕ → List (List ℕ) → List ℕ → Type 0 where
+pub data ChunkCalls : List ℕ → List (List ℕ) → List ℕ → Type 0 where
   no-more : (len n : ℕ) (line before out : List ℕ) → left (Counted n) out ≡ written 0 (said (take len line) []) before
-      → Runs (take len line) [] (take n out)
-  one-chunk : {chunk line last printed more : List ℕ} {chunks : List (List ℕ)} → Turns chunk 0 line printed last → Runs last chunks more
-      → Runs line (chunk ∷ chunks) (printed ++ more)
+      → ChunkCalls (take len line) [] (take n out)
+  one-chunk : {chunk line last printed more : List ℕ} {chunks : List (List ℕ)} → Turns chunk 0 line printed last
+      → ChunkCalls last chunks more
+      → ChunkCalls line (chunk ∷ chunks) (printed ++ more)
 
-abbrev pub joined : List (List ℕ) → List ℕ
-joined [] = []
-joined (chunk ∷ chunks) = chunk ++ joined chunks
+abbrev pub inputOf : List (List ℕ) → List ℕ
+inputOf [] = []
+inputOf (chunk ∷ chunks) = chunk ++ inputOf chunks
 
 -- "one form a line": over a chunk, just the answers of the lines that end in it are printed; and the line so far is kept, up to one
 -- byte more than a line may have
@@ -109,14 +110,14 @@ the-lines-that-end-are-answered {chunk} (turn at len line out printed last h t) 
     (ap (λ (l : List ℕ). printedBy (feedOf chunk at len line out) ++ l) (k .0) ∙ sym (f .answers), k .1 ∙ sym (f .so-far))
 
 -- all that is printed is what is said of the input, wherever it is cut and however many turns a chunk takes
-pub a-run-prints-what-is-said : {line printed : List ℕ} {chunks : List (List ℕ)} → Runs line chunks printed
-    → printed ≡ said line (joined chunks)
+pub a-run-prints-what-is-said : {line printed : List ℕ} {chunks : List (List ℕ)} → ChunkCalls line chunks printed
+    → printed ≡ said line (inputOf chunks)
 a-run-prints-what-is-said (no-more len n line before out f) = finish-prints len n line before out f
 a-run-prints-what-is-said (one-chunk {chunk} {line} {last} {printed} {more} {chunks} t p) =
     let k = the-lines-that-end-are-answered t in
     ap₂ (λ (a b : List ℕ). a ++ b) (k .0)
-    (a-run-prints-what-is-said p ∙ (ap (λ (l : List ℕ). said l (joined chunks)) (k .1) ∙ said-cut (soFar line chunk) (joined chunks)))
-    ∙ sym (said-on line chunk (joined chunks))
+    (a-run-prints-what-is-said p ∙ (ap (λ (l : List ℕ). said l (inputOf chunks)) (k .1) ∙ said-cut (soFar line chunk) (inputOf chunks)))
+    ∙ sym (said-on line chunk (inputOf chunks))
 
 -- Memory for the longest answer is enough: each turn takes in a byte at least, so that every chunk is used up.
 record Used (chunk : List ℕ) (at : ℕ) (line : List ℕ) : Type 0 where
@@ -167,7 +168,7 @@ a-chunk-is-used-up chunk len line out h k =
 
 record SomeRun (line : List ℕ) (chunks : List (List ℕ)) : Type 0 where
   printed : List ℕ
-  runs : Runs line chunks printed
+  runs : ChunkCalls line chunks printed
 
 last-short : (line : List ℕ) → length (said line []) ≤ longest + 1
 unfolding said
@@ -189,7 +190,7 @@ some-run (chunk ∷ chunks) len line out h k =
     record { printed = u .printed ++ r .printed; runs = one-chunk (u .turns) (r .runs) }
 
 pub every-input-is-printed : (chunks : List (List ℕ)) (len : ℕ) (line out : List ℕ) → length line ≡ suc maxLine → longest < length out
-    → Runs (take len line) chunks (said (take len line) (joined chunks))
+    → ChunkCalls (take len line) chunks (said (take len line) (inputOf chunks))
 every-input-is-printed chunks len line out h k =
     let r = some-run chunks len line out h k in
-    subst (λ (l : List ℕ). Runs (take len line) chunks l) (a-run-prints-what-is-said (r .runs)) (r .runs)
+    subst (λ (l : List ℕ). ChunkCalls (take len line) chunks l) (a-run-prints-what-is-said (r .runs)) (r .runs)

@@ -10,7 +10,7 @@ ghost use Rattle.constants.specs.Limits.{maxLine};
 ghost use Rattle.errors.specs.Answer.{written};
 ghost use Rattle.errors.specs.Cases.{left};
 ghost use Rattle.form_stream.specs.Scan.{scanAt, scan, feedOf, scanOf};
-ghost use Rattle.form_stream.specs.Steps.{Takes, Ends};
+ghost use Rattle.form_stream.specs.Steps.{Takes, LineEnds};
 ghost use Rattle.form_stream.specs.Stream.{said, reply as Stream·reply};
 
 // How many bytes of a line are kept: one more than a line may have.
@@ -112,7 +112,8 @@ fn feed_lines(chunk: &[u8], from: usize, line: &mut [u8], len: usize, out: &mut 
 fn take_line(chunk: &[u8], from: usize, line: &mut [u8], len: usize) -> Feeding
     requires { ⌜ from ≤ length (now chunk) ⌝ }
     requires { ⌜ (length (now line) ≡ suc maxLine) × (len ≤ length (now line)) ⌝ }
-    ensures { λ r. ⌜ Takes (now (chunk .entry)) from (now (line .entry)) len (now (line .exit)) r × Ends (now (chunk .entry)) (r .at) ⌝ }
+    ensures { λ r. ⌜ Takes (now (chunk .entry)) from (now (line .entry)) len (now (line .exit)) r
+        × LineEnds (now (chunk .entry)) (r .at) ⌝ }
 {
     let mut i = from;
     let mut n = len;

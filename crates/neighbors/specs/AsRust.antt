@@ -21,23 +21,23 @@ use Rattle.tile.specs.OnMap.{tileAt}
 use Rattle.tile.specs.Rust.{To29, rustAlong}
 use Rattle.tile.specs.declared.Step.the-variants.{Back}
 use Rattle.tile.specs.declared.Tile.{Tile}
-use Rattle.neighbors.specs.Neighbors.{around, aroundWrapped, inside, near, nearWrapped}
+use Rattle.neighbors.specs.Neighbors.{around, aroundWrapped, stepOnMap, near, nearWrapped}
 use Rattle.neighbors.specs.declared.Seam.the-variants.{Cut}
-use Rattle.neighbors.specs.Rust.{neighborsArm, remEuclid, asU32, plusI64, wrapStep, wrapSteps, wrapTiles, armBy, tilesAt, kept}
+use Rattle.neighbors.specs.Rust.{neighborsArm, remEuclid, asU32, plusI64, wrapStep, wrapSteps, wrapTiles, armBy, tilesAt, ifOnMap}
 use Rattle.neighbors.specs.Rust.{struck}
 use Rattle.neighbors.specs.Laws.{below-one, near-off-row}
 
 -- where all tiles are on the map, none is struck out
-pub Within : List Tile → Type 0
-Within [] = Unit {0}
-Within (t ∷ ts) = (t .x < 2 ^ t .z) × (t .y < 2 ^ t .z) × Within ts
+pub AllOnMap : List Tile → Type 0
+AllOnMap [] = Unit {0}
+AllOnMap (t ∷ ts) = (t .x < 2 ^ t .z) × (t .y < 2 ^ t .z) × AllOnMap ts
 
-pub none-struck : (ts : List Tile) → Within ts → struck ts ≡ ts
-unfolding flatMap Within
+pub none-struck : (ts : List Tile) → AllOnMap ts → struck ts ≡ ts
+unfolding flatMap AllOnMap
 none-struck [] w = refl
 none-struck (t ∷ ts) w = rw (lt-ltb _ _ (w .0), lt-ltb _ _ (w .1)) (ap (λ (l : List Tile). t ∷ l) (none-struck ts (w .2)))
 
-inside-is : (side n s a : ℕ) → n + s ≡ a + 1 → inside side n s ≡ ltb a side
+inside-is : (side n s a : ℕ) → n + s ≡ a + 1 → stepOnMap side n s ≡ ltb a side
 inside-is side n s a e = let h : 1 ≤ a + 1 = omega arith in rw (e, le-leb 1 (a + 1) h, add-one a)
 
 -- n - 1 where n is not 0
@@ -46,7 +46,7 @@ last n e = minus-fits n 1 (omega (arith, eqb-false n 0 e))
 
 -- a square by the tile that stands there; left of column 0 and above row 0 there is none
 module _ (x y z : ℕ) where
-  pub near-at : (s a b : ℕ) → x + s / 3 ≡ a + 1 → y + s % 3 ≡ b + 1 → near x y z s ≡ kept (tileAt a b z)
+  pub near-at : (s a b : ℕ) → x + s / 3 ≡ a + 1 → y + s % 3 ≡ b + 1 → near x y z s ≡ ifOnMap (tileAt a b z)
   near-at s a b e f =
       let p : x + s / 3 - 1 ≡ a = omega arith in
       let q : y + s % 3 - 1 ≡ b = omega arith in
@@ -60,8 +60,8 @@ module _ (x y z : ℕ) where
 
   -- the block in its order, by what stands at the five squares that column 0 or row 0 may lack
   block : {w n nw ne sw : List Tile} → near x y z 1 ≡ w → near x y z 3 ≡ n → near x y z 0 ≡ nw → near x y z 6 ≡ ne → near x y z 2 ≡ sw
-      → kept (tileAt (x + 1) y z)
-      ++ (kept (tileAt x (y + 1) z) ++ (kept (tileAt (x + 1) (y + 1) z) ++ (w ++ (n ++ (nw ++ (ne ++ (sw ++ [])))))))
+      → ifOnMap (tileAt (x + 1) y z)
+      ++ (ifOnMap (tileAt x (y + 1) z) ++ (ifOnMap (tileAt (x + 1) (y + 1) z) ++ (w ++ (n ++ (nw ++ (ne ++ (sw ++ [])))))))
       ≡ gather (near x y z) around
   unfolding gather
   block p q r s t =
@@ -103,8 +103,8 @@ module _ (x y z : ℕ) where
       (near-at 2 (x - 1) (y + 1) (omega arith) (omega arith))
 
   -- away from the right and bottom edges an arm's tiles are on the map
-  pub arm-within : (a b : Bool) → x < 2 ^ z - 1 → y < 2 ^ z - 1 → Within (tilesAt (neighborsArm (armBy a b)) x y z)
-  unfolding Within
+  pub arm-within : (a b : Bool) → x < 2 ^ z - 1 → y < 2 ^ z - 1 → AllOnMap (tilesAt (neighborsArm (armBy a b)) x y z)
+  unfolding AllOnMap
   arm-within true true h k = omega arith
   arm-within true false h k = omega arith
   arm-within false true h k = omega arith
@@ -174,12 +174,12 @@ row-kept side n t b = pick (decLt n side)
 
 wrapped-row : {d : ℤ} {s : ℕ} → Means d s → (y side : ℕ) (t : ℕ → Tile) → side ≤ 2 ^ 29
     → cond (ltZ (pos y +ℤ d) (pos 0) || leZ (pos side) (pos y +ℤ d)) [] (t (asU32 (pos y +ℤ d)) ∷ [])
-    ≡ cond (inside side y s) (t (y + s - 1) ∷ []) []
+    ≡ cond (stepOnMap side y s) (t (y + s - 1) ∷ []) []
 wrapped-row {d} {s} p y side t b = pick (decLt 0 (y + s))
   where
     pick : Dec (0 < y + s)
         → cond (ltZ (pos y +ℤ d) (pos 0) || leZ (pos side) (pos y +ℤ d)) [] (t (asU32 (pos y +ℤ d)) ∷ [])
-        ≡ cond (inside side y s) (t (y + s - 1) ∷ []) []
+        ≡ cond (stepOnMap side y s) (t (y + s - 1) ∷ []) []
     pick (yes k) =
         let e : y + s ≡ y + s - 1 + 1 = omega arith in
         rw (signed-sum p y k, inside-is side y s (y + s - 1) e) (row-kept side (y + s - 1) t b)

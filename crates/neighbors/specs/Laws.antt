@@ -20,7 +20,7 @@ use Rattle.errors.specs.Cases.{countCase, left}
 use Rattle.errors.specs.declared.Count.{Count}
 use Rattle.tile.specs.OnMap.{OnMap, tileAt}
 use Rattle.tile.specs.declared.Tile.{Tile}
-use Rattle.neighbors.specs.Neighbors.{neighborsOf, inside, nearOf, orderOf, spotTiles, SpotOnMap, pasted}
+use Rattle.neighbors.specs.Neighbors.{neighborsOf, stepOnMap, nearOf, orderOf, spotTiles, SpotOnMap, pasted}
 use Rattle.neighbors.specs.declared.Seam.{Seam}
 use Rattle.neighbors.specs.declared.Seam.the-variants.{Cut, Wrapped}
 use Rattle.neighbors.specs.declared.Spot.{Spot}
@@ -92,7 +92,7 @@ pub fill-length : (seam : Seam) (x y z k n : ℕ) (memory out : List ℕ) → n 
 fill-length seam x y z k n memory out e h f =
     ap (λ (l : List ℕ). length l) f ∙ rw (length-append, length-map, ← e, length-drop) (omega arith)
 
-inside-bounds : (side n s : ℕ) → inside side n s ≡ true → n + s - 1 < side
+inside-bounds : (side n s : ℕ) → stepOnMap side n s ≡ true → n + s - 1 < side
 inside-bounds side n s e = let p = and-parts (leb 1 (n + s)) (leb (n + s) side) e in
     omega (arith, leb-true 1 (n + s) (p .0), leb-true (n + s) side (p .1))
 
@@ -104,7 +104,7 @@ kept-is false s t e = let z : _≡_ {A = ℕ} 0 1 = cc in absurd (omega arith)
 -- a square that is on the map is a tile of it
 pub near-on-map : (seam : Seam) (x y z s c r : ℕ) → OnMap x y z → spotTiles z (At c r) ≡ nearOf seam x y z s → OnMap c r z
 near-on-map Wrapped x y z s c r m e =
-    let k = kept-is (inside (2 ^ z) y (s % 3)) (tileAt c r z) (tileAt ((x + s / 3 + 2 ^ z - 1) % 2 ^ z) (y + s % 3 - 1) z) e in
+    let k = kept-is (stepOnMap (2 ^ z) y (s % 3)) (tileAt c r z) (tileAt ((x + s / 3 + 2 ^ z - 1) % 2 ^ z) (y + s % 3 - 1) z) e in
     let a : c ≡ (x + s / 3 + 2 ^ z - 1) % 2 ^ z = ap (λ (t : Tile). t .x) (k .1) in
     let b : r ≡ y + s % 3 - 1 = ap (λ (t : Tile). t .y) (k .1) in
     record {
@@ -114,8 +114,9 @@ near-on-map Wrapped x y z s c r m e =
           rw b (inside-bounds (2 ^ z) y (s % 3) (k .0));
     }
 near-on-map Cut x y z s c r m e =
-    let k = kept-is (inside (2 ^ z) x (s / 3) && inside (2 ^ z) y (s % 3)) (tileAt c r z) (tileAt (x + s / 3 - 1) (y + s % 3 - 1) z) e in
-    let p = and-parts (inside (2 ^ z) x (s / 3)) (inside (2 ^ z) y (s % 3)) (k .0) in
+    let k =
+    kept-is (stepOnMap (2 ^ z) x (s / 3) && stepOnMap (2 ^ z) y (s % 3)) (tileAt c r z) (tileAt (x + s / 3 - 1) (y + s % 3 - 1) z) e in
+    let p = and-parts (stepOnMap (2 ^ z) x (s / 3)) (stepOnMap (2 ^ z) y (s % 3)) (k .0) in
     let a : c ≡ x + s / 3 - 1 = ap (λ (t : Tile). t .x) (k .1) in
     let b : r ≡ y + s % 3 - 1 = ap (λ (t : Tile). t .y) (k .1) in
     record { zoom = m .zoom; column = rw a (inside-bounds (2 ^ z) x (s / 3) (p .0)); row = rw b (inside-bounds (2 ^ z) y (s % 3) (p .1)) }
@@ -131,35 +132,35 @@ pub paste-none : (n : ℕ) (memory : List ℕ) → memory ≡ pasted n [] memory
 paste-none n memory = rw add-zero (sym (take-append-drop n memory))
 
 -- the tests of a square, as the code makes them
-pub near-off-row : (seam : Seam) (x y z s : ℕ) → inside (2 ^ z) y (s % 3) ≡ false → [] ≡ nearOf seam x y z s
+pub near-off-row : (seam : Seam) (x y z s : ℕ) → stepOnMap (2 ^ z) y (s % 3) ≡ false → [] ≡ nearOf seam x y z s
 near-off-row Wrapped x y z s e = rw e
-near-off-row Cut x y z s e = rw e (pick (inside (2 ^ z) x (s / 3)))
+near-off-row Cut x y z s e = rw e (pick (stepOnMap (2 ^ z) x (s / 3)))
   where
     pick : (b : Bool) → [] ≡ cond (b && false) (tileAt (x + s / 3 - 1) (y + s % 3 - 1) z ∷ []) []
     pick true = refl
     pick false = refl
 
-pub below-one : (side n s : ℕ) → n + s < 1 → inside side n s ≡ false
+pub below-one : (side n s : ℕ) → n + s < 1 → stepOnMap side n s ≡ false
 below-one side n s h = rw (lt-leb _ _ h)
 
-pub past-side : (side n s : ℕ) → side < n + s → inside side n s ≡ false
+pub past-side : (side n s : ℕ) → side < n + s → stepOnMap side n s ≡ false
 past-side side n s h = rw (lt-leb (n + s) side h) (pick (leb 1 (n + s)))
   where
     pick : (b : Bool) → b && false ≡ false
     pick true = refl
     pick false = refl
 
-pub within-side : (side n s : ℕ) → 1 ≤ n + s → n + s ≤ side → inside side n s ≡ true
+pub within-side : (side n s : ℕ) → 1 ≤ n + s → n + s ≤ side → stepOnMap side n s ≡ true
 within-side side n s h l = rw (le-leb _ _ h, le-leb _ _ l)
 
 -- a square has one tile at most, so k squares have k
 near-most : (seam : Seam) (x y z s : ℕ) → length (nearOf seam x y z s) ≤ 1
-near-most Wrapped x y z s = pick (inside (2 ^ z) y (s % 3))
+near-most Wrapped x y z s = pick (stepOnMap (2 ^ z) y (s % 3))
   where
     pick : (b : Bool) → length (cond b (tileAt ((x + s / 3 + 2 ^ z - 1) % 2 ^ z) (y + s % 3 - 1) z ∷ []) []) ≤ 1
     pick true = omega arith
     pick false = omega arith
-near-most Cut x y z s = pick (inside (2 ^ z) x (s / 3) && inside (2 ^ z) y (s % 3))
+near-most Cut x y z s = pick (stepOnMap (2 ^ z) x (s / 3) && stepOnMap (2 ^ z) y (s % 3))
   where
     pick : (b : Bool) → length (cond b (tileAt (x + s / 3 - 1) (y + s % 3 - 1) z ∷ []) []) ≤ 1
     pick true = omega arith

@@ -14,7 +14,7 @@ use Rattle.children.specs.Members.{once-more, once-gather}
 use Rattle.tile.specs.OnMap.{OnMap, tileAt}
 use Rattle.tile.specs.Order.{tile-ext}
 use Rattle.tile.specs.declared.Tile.{Tile}
-use Rattle.neighbors.specs.Neighbors.{around, inside, near, nearOf, orderOf}
+use Rattle.neighbors.specs.Neighbors.{around, stepOnMap, near, nearOf, orderOf}
 use Rattle.bits.specs.Tests.{and-parts, allOf, all-in}
 use Rattle.neighbors.specs.declared.Seam.{Seam}
 use Rattle.neighbors.specs.declared.Seam.the-variants.{Cut, Wrapped}
@@ -82,8 +82,8 @@ pub record OnSquare (x y z s : ℕ) (t : Tile) : Type 0 where
 
 pub near-on-square : (x y z s : ℕ) (t : Tile) → List·Memᴰ t (near x y z s) → OnSquare x y z s t
 near-on-square x y z s t m =
-    let k = mem-test (inside (2 ^ z) x (s / 3) && inside (2 ^ z) y (s % 3)) m in
-    let p = and-parts (inside (2 ^ z) x (s / 3)) (inside (2 ^ z) y (s % 3)) (k .0) in
+    let k = mem-test (stepOnMap (2 ^ z) x (s / 3) && stepOnMap (2 ^ z) y (s % 3)) m in
+    let p = and-parts (stepOnMap (2 ^ z) x (s / 3)) (stepOnMap (2 ^ z) y (s % 3)) (k .0) in
     let c = and-parts (leb 1 (x + s / 3)) (leb (x + s / 3) (2 ^ z)) (p .0) in
     let r = and-parts (leb 1 (y + s % 3)) (leb (y + s % 3) (2 ^ z)) (p .1) in
     let c1 = leb-true 1 (x + s / 3) (c .0) in
@@ -111,10 +111,10 @@ on-square-near x y z s t p =
 near-one : (seam : Seam) (x y z s : ℕ) (t : Tile) → List·Memᴰ t (nearOf seam x y z s)
     → (tileAt (t .x) (t .y) z ∷ [] ≡ nearOf seam x y z s) × (t .z ≡ z)
 near-one Wrapped x y z s t m =
-    let k = mem-test (inside (2 ^ z) y (s % 3)) m in
+    let k = mem-test (stepOnMap (2 ^ z) y (s % 3)) m in
     (rw (k .0) (ap (λ (u : Tile). tileAt (u .x) (u .y) z ∷ []) (k .1)), ap (λ (u : Tile). u .z) (k .1))
 near-one Cut x y z s t m =
-    let k = mem-test (inside (2 ^ z) x (s / 3) && inside (2 ^ z) y (s % 3)) m in
+    let k = mem-test (stepOnMap (2 ^ z) x (s / 3) && stepOnMap (2 ^ z) y (s % 3)) m in
     (rw (k .0) (ap (λ (u : Tile). tileAt (u .x) (u .y) z ∷ []) (k .1)), ap (λ (u : Tile). u .z) (k .1))
 
 pub mem-on-map : (seam : Seam) (x y z s : ℕ) (t : Tile) → OnMap x y z → List·Memᴰ t (nearOf seam x y z s) → OnMap (t .x) (t .y) (t .z)
@@ -133,7 +133,7 @@ wrapped-back x c side h k =
 pub square-back : (seam : Seam) (x y z s : ℕ) (t : Tile) → x < 2 ^ z → 4 ≤ 2 ^ z → s < 9 → List·Memᴰ t (nearOf seam x y z s)
     → squareOf seam x y (2 ^ z) t ≡ s
 square-back Wrapped x y z s t h f n m =
-    let k = mem-test (inside (2 ^ z) y (s % 3)) m in
+    let k = mem-test (stepOnMap (2 ^ z) y (s % 3)) m in
     let r = and-parts (leb 1 (y + s % 3)) (leb (y + s % 3) (2 ^ z)) (k .0) in
     let l = leb-true 1 (y + s % 3) (r .0) in
     let a : t .x ≡ (x + s / 3 + 2 ^ z - 1) % 2 ^ z = ap (λ (u : Tile). u .x) (k .1) in
@@ -183,8 +183,8 @@ one-at-most true t = once-more List·Memᴰ·not-nil Pairwise·nil
 one-at-most false t = Pairwise·nil
 
 near-once : (seam : Seam) (x y z s : ℕ) → List·Nodup (nearOf seam x y z s)
-near-once Wrapped x y z s = one-at-most (inside (2 ^ z) y (s % 3)) (tileAt ((x + s / 3 + 2 ^ z - 1) % 2 ^ z) (y + s % 3 - 1) z)
-near-once Cut x y z s = one-at-most (inside (2 ^ z) x (s / 3) && inside (2 ^ z) y (s % 3)) (tileAt (x + s / 3 - 1) (y + s % 3 - 1) z)
+near-once Wrapped x y z s = one-at-most (stepOnMap (2 ^ z) y (s % 3)) (tileAt ((x + s / 3 + 2 ^ z - 1) % 2 ^ z) (y + s % 3 - 1) z)
+near-once Cut x y z s = one-at-most (stepOnMap (2 ^ z) x (s / 3) && stepOnMap (2 ^ z) y (s % 3)) (tileAt (x + s / 3 - 1) (y + s % 3 - 1) z)
 
 -- a tile tells the square that it is from, so no two squares have it
 pub around-once : (seam : Seam) (x y z : ℕ) → x < 2 ^ z → 4 ≤ 2 ^ z → List·Nodup (gather (nearOf seam x y z) (orderOf seam))

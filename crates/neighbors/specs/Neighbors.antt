@@ -26,16 +26,16 @@ abbrev pub aroundWrapped : List ℕ
 aroundWrapped = 0 ∷ 1 ∷ 2 ∷ 3 ∷ 5 ∷ 6 ∷ 7 ∷ 8 ∷ []
 
 -- whether there is a column, or row, n + s − 1 of so many, for a step s of 0, 1 or 2
-abbrev pub inside : ℕ → ℕ → ℕ → Bool
-inside side n s = leb 1 (n + s) && leb (n + s) side
+abbrev pub stepOnMap : ℕ → ℕ → ℕ → Bool
+stepOnMap side n s = leb 1 (n + s) && leb (n + s) side
 
 -- the tile of square s, struck out where it is off the map
 abbrev pub near : ℕ → ℕ → ℕ → ℕ → List Tile
-near x y z s = cond (inside (2 ^ z) x (s / 3) && inside (2 ^ z) y (s % 3)) (tileAt (x + s / 3 - 1) (y + s % 3 - 1) z ∷ []) []
+near x y z s = cond (stepOnMap (2 ^ z) x (s / 3) && stepOnMap (2 ^ z) y (s % 3)) (tileAt (x + s / 3 - 1) (y + s % 3 - 1) z ∷ []) []
 
 -- the same where the last column stands beside the first
 abbrev pub nearWrapped : ℕ → ℕ → ℕ → ℕ → List Tile
-nearWrapped x y z s = cond (inside (2 ^ z) y (s % 3)) (tileAt ((x + s / 3 + 2 ^ z - 1) % 2 ^ z) (y + s % 3 - 1) z ∷ []) []
+nearWrapped x y z s = cond (stepOnMap (2 ^ z) y (s % 3)) (tileAt ((x + s / 3 + 2 ^ z - 1) % 2 ^ z) (y + s % 3 - 1) z ∷ []) []
 
 -- the two kinds: on a map that is wrapped at its seam, and on one that is cut there
 abbrev pub orderOf : Seam → List ℕ

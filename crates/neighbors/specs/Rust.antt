@@ -129,8 +129,8 @@ abbrev pub tilesAt : List (Step × Step) → ℕ → ℕ → ℕ → List Tile
 tilesAt steps x y z = map (λ (s : Step × Step). tileAt (stepped (s .0) x) (stepped (s .1) y) z) steps
 
 -- "that arm's list with off-map tiles struck out"
-abbrev pub kept : Tile → List Tile
-kept t = cond (ltb (t .x) (2 ^ t .z) && ltb (t .y) (2 ^ t .z)) (t ∷ []) []
+abbrev pub ifOnMap : Tile → List Tile
+ifOnMap t = cond (ltb (t .x) (2 ^ t .z) && ltb (t .y) (2 ^ t .z)) (t ∷ []) []
 
 abbrev pub struck : List Tile → List Tile
-struck ts = flatMap kept ts
+struck ts = flatMap ifOnMap ts

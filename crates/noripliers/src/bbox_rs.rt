@@ -1,6 +1,6 @@
 // Boxes of degrees: the calls of bbox.rs. A box is west, south, east, north; a comparison with NaN is false.
 ghost use mathlib.Core.Path.{_≡_};
-ghost use Rattle.bbox.specs.Box.{box, containsBox, containsPoint, crosses, held, meets, parts, point, within};
+ghost use Rattle.bbox.specs.Box.{box, containsBox, containsPoint, crosses, held, isWithin, meets, parts, point};
 ghost use Rattle.c_bbox.specs.Boxes.{boxesAt};
 ghost use Rattle.c_give.specs.Exported.{answered, asByte, never};
 
@@ -97,7 +97,7 @@ pub extern "C" fn nori_bbox_is_within(
     told: &mut u8,
 ) -> u8
     ensures { λ r. ⌜ answered r (now (told .exit))
-        ≡ asByte (never (within (box west south east north) (box western southern eastern northern))) ⌝ }
+        ≡ asByte (never (isWithin (box west south east north) (box western southern eastern northern))) ⌝ }
 {
     c_bbox::is_within(
         west,

@@ -4,7 +4,7 @@ ghost use Rattle.c_give.specs.Exported.{answered, never};
 ghost use Rattle.c_tile.specs.Order.{orderNumber};
 ghost use Rattle.tile.specs.OnMap.{tileAt, tileRefusal, tryNew};
 ghost use Rattle.tile.specs.Order.{tileOrder};
-ghost use Rattle.tile.specs.Steps.{flipOf, upOf, downOf, leftOf, rightOf, upLeftOf, upRightOf, downLeftOf, downRightOf};
+ghost use Rattle.tile.specs.Steps.{flipOf, upOf, downOf, leftTileOf, rightOf, upLeftOf, upRightOf, downLeftOf, downRightOf};
 
 // The tile itself, where x, y and z name one of the map.
 // Refused: 1, 2.
@@ -65,7 +65,7 @@ pub extern "C" fn nori_down(x: u32, y: u32, z: u8, tx: &mut u32, ty: &mut u32, t
 // Refused: 1, 2.
 #[no_mangle]
 pub extern "C" fn nori_left(x: u32, y: u32, z: u8, tx: &mut u32, ty: &mut u32, tz: &mut u8) -> u8
-    ensures { λ r. ⌜ answered r (tileAt (now (tx .exit)) (now (ty .exit)) (now (tz .exit))) ≡ leftOf (tileAt x y z) ⌝ }
+    ensures { λ r. ⌜ answered r (tileAt (now (tx .exit)) (now (ty .exit)) (now (tz .exit))) ≡ leftTileOf (tileAt x y z) ⌝ }
 {
     c_tile::left(x, y, z, tx, ty, tz)
 }

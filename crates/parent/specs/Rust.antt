@@ -16,9 +16,9 @@ abbrev pub rustIterParents : ℕ → ℕ → ℕ → Run (Option Tile)
 rustIterParents x y z = rustParent x y z 0
 
 -- `next`: what is given, and the cursor that is left
-abbrev pub rustNext : Option Tile → Run (Option Tile × Option Tile)
-rustNext none = returns (none, none)
-rustNext (some t) = rustParent (t .x) (t .y) (t .z) 0 then λ up. returns (some t, up)
+abbrev pub rustParentsNext : Option Tile → Run (Option Tile × Option Tile)
+rustParentsNext none = returns (none, none)
+rustParentsNext (some t) = rustParent (t .x) (t .y) (t .z) 0 then λ up. returns (some t, up)
 
 -- the Rust's values in this crate's terms
 abbrev pub optionTile : Option Tile → OptionTile

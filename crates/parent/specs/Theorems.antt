@@ -14,7 +14,7 @@ use Rattle.tile.specs.OnMap.{OnMap, tileAt, noTile, on-map-accepted}
 use Rattle.tile.specs.Rust.{To29, to-29-on-map}
 use Rattle.tile.specs.declared.Tile.{Tile}
 use Rattle.parent.specs.Parents.{aboveOf, iterOf, parentsNextOf}
-use Rattle.parent.specs.Rust.{rustIterParents, rustNext, optionTile, asParents, asNext, CursorTo29, ended, at-tile}
+use Rattle.parent.specs.Rust.{rustIterParents, rustParentsNext, optionTile, asParents, asNext, CursorTo29, ended, at-tile}
 use Rattle.parent.specs.declared.OptionTile.{OptionTile}
 use Rattle.parent.specs.declared.OptionTile.the-variants.{None, Some}
 
@@ -75,7 +75,8 @@ above-is x y (suc z) m =
 pub rust-iter-parents : (x y z : ℕ) → To29 x y z → read asParents (rustIterParents x y z) ≡ returns (iterOf x y z)
 rust-iter-parents x y z m = let a = above-is x y z m in rw (a .1, a .2, on-map-accepted (to-29-on-map m))
 
-pub rust-next : (cursor : Option Tile) → CursorTo29 cursor → read asNext (rustNext cursor) ≡ returns (parentsNextOf (optionTile cursor))
+pub rust-next : (cursor : Option Tile) → CursorTo29 cursor
+    → read asNext (rustParentsNext cursor) ≡ returns (parentsNextOf (optionTile cursor))
 rust-next cursor ended = refl
 rust-next cursor (at-tile t m) = let a = above-is (t .x) (t .y) (t .z) m in rw (a .1, a .2, on-map-accepted (to-29-on-map m))
 

@@ -16,14 +16,14 @@ use Rattle.neighbors.specs.Neighbors.{neighborsWritten}
 use Rattle.neighbors.specs.declared.Seam.the-variants.{Cut}
 use Rattle.siblings.specs.Siblings.{siblingsWritten}
 use Rattle.plate_table.specs.Kept.{answers, both-accepted, none-accepted, v1-keeps-both, simplify-keeps-one, empty-settles}
-use Rattle.plate_table.specs.Rows.{Row, row, key, entriesOfKeys, accepted, refused, keeps, ranges}
+use Rattle.plate_table.specs.Rows.{Row, row, key, entriesOfKeys, answeredWith, refused, keeps, ranges}
 use Rattle.quadkey.specs.Key.{keyFrom, keyWritten, allDigits, keyRefusal, spelled}
 use Rattle.tile.specs.Option.{unwrapOr}
 use Rattle.tile.specs.OnMap.{tileAt, noTile, tileRefusal}
 use Rattle.tile.specs.declared.OptionU8.the-variants.{None, Some}
 use Rattle.tile_zbox.specs.Box.{boxAt, boxRefusal, wrongEdges, boxLength, lengthOf}
 use Rattle.zoom.specs.Zooms.{zvecSet, zoomsOf}
-use Rattle.zoom_bits.specs.Bits.{hasBit, those, setOf, listed, anyDeeper}
+use Rattle.zoom_bits.specs.Bits.{hasBit, those, setOf, zoomsIn, anyDeeper}
 use Rattle.zoom_ranges.specs.Ranges.{firstRun, lastRun, inRun, runStarts, runEnds, rangesOf}
 
 -- the plates, in the paper's order
@@ -49,13 +49,13 @@ pub data Plate : Type 0 where
 
 abbrev pub table : Plate → Row
 table key-213 = row "† (3,5,3): key 213" (keyWritten 48 3 5 3) (written 0 (key "213"))
-table id-2659 = row "† (3,5,3): id 2659" (toIdOf 3 5 3) (accepted 2659)
-table rmid-64 = row "† (3,5,3): rmid 64" (toRmidOf 3 5 3) (accepted 64)
+table id-2659 = row "† (3,5,3): id 2659" (toIdOf 3 5 3) (answeredWith 2659)
+table rmid-64 = row "† (3,5,3): rmid 64" (toRmidOf 3 5 3) (answeredWith 64)
 table root-key = row "† Root: empty key" (keyWritten 48 0 0 0) (written 0 (key ""))
-table root-id = row "† Root: id 0" (toIdOf 0 0 0) (accepted 0)
-table root-rmid = row "† Root: rmid 0" (toRmidOf 0 0 0) (accepted 0)
-table parent = row "† parent of (3,5,3): (1,2,2)" (parentOf 3 5 3 (unwrapOr None 0)) (accepted (tileAt 1 2 2))
-table parent-2 = row "parent of (3,5,3), n = 2: the root" (parentOf 3 5 3 (unwrapOr (Some 2) 0)) (accepted (tileAt 0 0 0))
+table root-id = row "† Root: id 0" (toIdOf 0 0 0) (answeredWith 0)
+table root-rmid = row "† Root: rmid 0" (toRmidOf 0 0 0) (answeredWith 0)
+table parent = row "† parent of (3,5,3): (1,2,2)" (parentOf 3 5 3 (unwrapOr None 0)) (answeredWith (tileAt 1 2 2))
+table parent-2 = row "parent of (3,5,3), n = 2: the root" (parentOf 3 5 3 (unwrapOr (Some 2) 0)) (answeredWith (tileAt 0 0 0))
 table parent-3 = row "† parent of (3,5,3), n = 3: refusal 3" (parentOf 3 5 3 (unwrapOr (Some 3) 0)) (refused 3 noTile)
 table siblings =
     row "† siblings of (3,5,3): (2,5), (3,4), (2,4)" (siblingsWritten 3 5 3)
@@ -70,8 +70,8 @@ table kept-by-simplify =
     row "† keys 0, 00 at m = 1: `simplify` keeps 0" (simplifyOf (entriesOfKeys ("0" ∷ "00" ∷ [])) (unwrapOr (Some 1) 0))
     (keeps (entriesOfKeys ("0" ∷ "00" ∷ [])) (entriesOfKeys ("0" ∷ [])))
 table empty-list = row "† The empty list settles to itself" (simplifyOf [] (unwrapOr None 0)) (keeps [] [])
-table whole-zoom = row "† Box of all zoom 16: 4294967296" (lengthOf (boxAt 16 0 (2 ^ 16 - 1) 0 (2 ^ 16 - 1))) (accepted 4294967296)
-table set-33 = row "† Zooms 0, 5: set 33" (zvecSet (0 ∷ 5 ∷ [])) (accepted 33)
+table whole-zoom = row "† Box of all zoom 16: 4294967296" (lengthOf (boxAt 16 0 (2 ^ 16 - 1) 0 (2 ^ 16 - 1))) (answeredWith 4294967296)
+table set-33 = row "† Zooms 0, 5: set 33" (zvecSet (0 ∷ 5 ∷ [])) (answeredWith 33)
 table turned-set = row "Set with bits 31 and 30: zoom 0" (written 0 (zoomsOf (2 ^ 31 + 2 ^ 30))) (written 0 (0 ∷ []))
 table zoom-runs =
     row "Zooms 0, 1, 2, 4: ranges 1 to 2, 4 to 4" (rangesOf (zvecSet (0 ∷ 1 ∷ 2 ∷ 4 ∷ []) .value)) (ranges (1 ∷ 4 ∷ []) (2 ∷ 4 ∷ []))
@@ -82,7 +82,7 @@ Plates = (p : Plate) → table p .gives ≡ table p .says
 
 pub plates : Plates
 unfolding tileRefusal maxZoom maxEntries keyFrom idOf levelStart parentRefusal gather boxRefusal wrongEdges
-    boxLength hasBit those setOf listed anyDeeper firstRun lastRun inRun runStarts runEnds allDigits keyRefusal spelled
+    boxLength hasBit those setOf zoomsIn anyDeeper firstRun lastRun inRun runStarts runEnds allDigits keyRefusal spelled
 plates key-213 = refl
 plates id-2659 = refl
 plates rmid-64 = refl

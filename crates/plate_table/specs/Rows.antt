@@ -34,8 +34,8 @@ entriesOfKeys keys = entriesOf (map (λ s. keyTile (key s) .value) keys)
 
 -- ---- what is answered
 
-abbrev pub accepted : {A : Type 0} → A → Answer A
-accepted v = record { number = 0; value = v }
+abbrev pub answeredWith : {A : Type 0} → A → Answer A
+answeredWith v = record { number = 0; value = v }
 
 -- the number, and the zero of the type
 abbrev pub refused : {A : Type 0} → ℕ → A → Answer A

@@ -186,8 +186,8 @@ spelled-fits j key i h k =
     let l : length (take i key) ≤ 30 = omega (arith, length-take-le i key h, maxZoom-small) in
     lt-of-lt-of-le (spelled-small j (take i key)) (pow-mono l)
 
-pub filled : (base x y z : ℕ) (memory : List ℕ) → front z (keyFrom base x y z) memory ≡ keyFrom base x y z ++ drop z memory
-filled base x y z memory =
+pub key-filled : (base x y z : ℕ) (memory : List ℕ) → front z (keyFrom base x y z) memory ≡ keyFrom base x y z ++ drop z memory
+key-filled base x y z memory =
     ap (λ (l : List ℕ). l ++ drop z memory) (take-all z (keyFrom base x y z) (rw (key-length base x y z) (omega arith)))
 
 -- one flipped digit more is written

@@ -78,8 +78,8 @@ abbrev pub isQuadkey : List ℕ → Bool
 isQuadkey key = ltb (length key) 30 && allBytes key
 
 -- `QuadkeyRef::try_new`, with this crate's numbers for the two errors
-abbrev pub tryNew : List ℕ → ℕ
-tryNew key = 4 when leb 30 (length key) else 5 when not (isQuadkey key)
+abbrev pub keyTryNew : List ℕ → ℕ
+keyTryNew key = 4 when leb 30 (length key) else 5 when not (isQuadkey key)
 
 -- the fold of `to_xyz`, in 32 and 8 bits
 abbrev pub folded : Tile → ℕ → Run Tile
@@ -116,7 +116,7 @@ unlessError zero t = read accepted t
 unlessError (suc n) t = returns (record { number = suc n; value = noTile })
 
 abbrev pub quadkey2xyz : List ℕ → Run (Answer Tile)
-quadkey2xyz key = unlessError (tryNew key) (toXyz key)
+quadkey2xyz key = unlessError (keyTryNew key) (toXyz key)
 
 -- `from_char`, `flipy`, `as_char` of one character
 abbrev pub flipChar : ℕ → Option ℕ
@@ -222,14 +222,14 @@ quadkey-is-key key e h =
     pick true = refl
     pick false = refl
 
-pub try-new-refuses : (key : List ℕ) → areBytes key ≡ true → length key ≤ 29 → tryNew key ≡ keyRefusal key
+pub try-new-refuses : (key : List ℕ) → areBytes key ≡ true → length key ≤ 29 → keyTryNew key ≡ keyRefusal key
 unfolding keyRefusal
 try-new-refuses key e h =
     let k : length key < 30 = omega arith in
     rw (bytes-are-digits key e, lt-ltb _ _ k, lt-leb _ _ k, le-ltb _ _ (le-trans h at-least-29)) refl
 
 -- a longer one: the Rust's own test of the length
-pub too-long : (key : List ℕ) → 29 < length key → (isQuadkey key ≡ false) × (tryNew key ≡ 4)
+pub too-long : (key : List ℕ) → 29 < length key → (isQuadkey key ≡ false) × (keyTryNew key ≡ 4)
 too-long key h = (rw (le-ltb (length key) 30 h), rw (le-leb 30 (length key) h))
 
 same-tile : {a b c d e f : ℕ} → a ≡ d → b ≡ e → c ≡ f → tileAt a b c ≡ tileAt d e f

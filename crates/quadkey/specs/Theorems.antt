@@ -27,25 +27,25 @@ use Rattle.quadkey.specs.Bing.{base4, base4-small, bytes-of-digits, even
 use Rattle.quadkey.specs.Rust as rust
 
 -- a call that is not refused and answers with this tile
-abbrev pub found : Tile → Answer Tile
-found t = record { number = 0; value = t }
+abbrev pub tileAnswer : Tile → Answer Tile
+tileAnswer t = record { number = 0; value = t }
 
 -- a tile's key leads back to the tile
-pub tile-to-key-to-tile : (x y z : ℕ) → OnMap x y z → keyTile (keyOf x y z) ≡ found (tileAt x y z)
+pub tile-to-key-to-tile : (x y z : ℕ) → OnMap x y z → keyTile (keyOf x y z) ≡ tileAnswer (tileAt x y z)
 tile-to-key-to-tile x y z m =
     let e : keyRefusal (keyOf x y z) ≡ 0 = key-accepted (keyOf x y z) (rw (key-length 48 x y z) (m .zoom)) (key-digits x y z) in
     rw (e, spelled-column x y z, spelled-row x y z, key-length 48 x y z, mod-eq-of-lt (m .column), mod-eq-of-lt (m .row))
 
 -- a key that is not refused leads to a tile of the map, and that tile back to the key
 pub key-to-tile-to-key : (key : List ℕ) → keyRefusal key ≡ 0
-    → (keyTile key ≡ found (tileOf key)) × OnMap (columnOf key) (rowOf key) (length key)
+    → (keyTile key ≡ tileAnswer (tileOf key)) × OnMap (columnOf key) (rowOf key) (length key)
     × (keyOf (columnOf key) (rowOf key) (length key) ≡ key)
 key-to-tile-to-key key e =
     let k = accepted-key key e in
     (rw e, record { zoom = k .0; column = spelled-small 0 key; row = spelled-small 1 key }, key-again key (k .1))
 
 -- "The empty key is the root"
-pub the-empty-key-is-the-root : keyTile [] ≡ found (tileAt 0 0 0)
+pub the-empty-key-is-the-root : keyTile [] ≡ tileAnswer (tileAt 0 0 0)
 unfolding allDigits spelled
 the-empty-key-is-the-root = key-to-tile-to-key [] (key-accepted [] (omega arith) refl) .0
 
@@ -100,8 +100,8 @@ the-flipped-tile key e =
     let f : map flipDigit key ≡ keyOf x (2 ^ z - 1 - y) z = ap (map flipDigit) (sym (k .2)) ∙ the-flipped-key x y z (k .1) in
     rw (f, on-map-accepted (k .1)) (tile-to-key-to-tile x (2 ^ z - 1 - y) z m)
 
-pub flipped-twice : (key : List ℕ) → keyRefusal key ≡ 0 → map flipDigit (map flipDigit key) ≡ key
-flipped-twice key e = flip-twice key (accepted-key key e .1)
+pub key-flipped-twice : (key : List ℕ) → keyRefusal key ≡ 0 → map flipDigit (map flipDigit key) ≡ key
+key-flipped-twice key e = flip-twice key (accepted-key key e .1)
 
 -- The Rust, by the functions of Rust.antt, gives the same to zoom 29: the digits of `xyz2quadkey_vec` and the characters of `xyz2quadkey`,
 -- each list whole
@@ -119,12 +119,12 @@ pub the-rusts-byte : (b : ℕ) → b < 256 → rust.isByte b ≡ isDigit b
 the-rusts-byte = rust.byte-is-digit
 
 pub the-rusts-test : (key : List ℕ) → areBytes key ≡ true → length key ≤ 29
-    → (rust.isQuadkey key ≡ isKey key) × (rust.tryNew key ≡ keyRefusal key)
+    → (rust.isQuadkey key ≡ isKey key) × (rust.keyTryNew key ≡ keyRefusal key)
 the-rusts-test key e h = (rust.quadkey-is-key key e h, rust.try-new-refuses key e h)
 
 -- of a longer key, whatever its bytes: both refuse it by its length. With a deeper zoom than 29 this would not hold
 pub the-rusts-long-keys : (key : List ℕ) → 29 < length key
-    → (rust.isQuadkey key ≡ isKey key) × (rust.tryNew key ≡ keyRefusal key) × (keyRefusal key ≡ 4)
+    → (rust.isQuadkey key ≡ isKey key) × (rust.keyTryNew key ≡ keyRefusal key) × (keyRefusal key ≡ 4)
     × (rust.quadkey2xyz key ≡ returns (keyTile key))
 unfolding maxZoom
 the-rusts-long-keys key h =

@@ -14,7 +14,7 @@ EndsPast (token.Equals next) at line = (at < next) × (next ≤ length line)
 EndsPast token.Bad at line = Unit
 
 -- a call's name lies within its line, and its numbers within the lent ones
-abbrev pub Fits : Parsed → List ℕ → List ℕ → Type 0
-Fits (parsed.Call s) line numbers = (s .name ≤ length line) × (s .args + s .answers ≤ length numbers)
-Fits parsed.Heading line numbers = Unit
-Fits parsed.Bad line numbers = Unit
+abbrev pub CallFits : Parsed → List ℕ → List ℕ → Type 0
+CallFits (parsed.Call s) line numbers = (s .name ≤ length line) × (s .args + s .answers ≤ length numbers)
+CallFits parsed.Heading line numbers = Unit
+CallFits parsed.Bad line numbers = Unit

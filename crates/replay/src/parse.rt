@@ -2,7 +2,7 @@
 use crate::parts;
 ghost use Prim.Native.Nat.{_≤_, _<_};
 ghost use lib.ListN.{length};
-ghost use Rattle.replay.specs.Within.{EndsPast, Fits};
+ghost use Rattle.replay.specs.Within.{EndsPast, CallFits};
 
 // How many bytes the name of a call has, how many arguments follow it, and how many numbers its answer has.
 pub struct Shape {
@@ -26,7 +26,7 @@ pub enum Token {
 
 // The numbers of a call, arguments first, stand in the front of `numbers`.
 pub fn parse(line: &[u8], numbers: &mut [u64]) -> Parsed
-    ensures { λ r. ⌜ Fits r (now (line .entry)) (now (numbers .exit)) ⌝ }
+    ensures { λ r. ⌜ CallFits r (now (line .entry)) (now (numbers .exit)) ⌝ }
 {
     if is_heading(line) {
         return Parsed::Heading;
@@ -38,7 +38,7 @@ pub fn parse(line: &[u8], numbers: &mut [u64]) -> Parsed
 // The call whose name has so many bytes.
 fn numbers_after(line: &[u8], name: usize, numbers: &mut [u64]) -> Parsed
     requires { ⌜ name ≤ length (now line) ⌝ }
-    ensures { λ r. ⌜ Fits r (now (line .entry)) (now (numbers .exit)) ⌝ }
+    ensures { λ r. ⌜ CallFits r (now (line .entry)) (now (numbers .exit)) ⌝ }
 {
     let mut at = name;
     let mut n = 0;

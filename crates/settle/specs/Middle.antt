@@ -23,7 +23,7 @@ use Rattle.sort.specs.At.{in-at, taken-at, at-taken, taken-rising, by-at}
 use Rattle.quadtree.specs.Locations.{lowOf, startOf, endOf, low-pos, low-below, held-run, location-held, parent-of-map, IsLocation}
 use Rattle.quadtree.specs.Locations.{tile-location, tiles}
 use Rattle.settle.specs.Settle.{Settles, Popped, Family, Joins, stop, join}
-use Rattle.settle.specs.Stack.{Among, Under, Stack, Onto, stack-none, rise-apart, pop-under, pop-top, join-holds, join-under}
+use Rattle.settle.specs.Stack.{Among, InStack, Stack, Onto, stack-none, rise-apart, pop-under, pop-top, join-holds, join-under}
 use Rattle.settle.specs.Stack.{join-end, join-top, push, push-under}
 
 pub joins-less : {m c j n k : ℕ} {l : List ℕ} → Joins m l c j n k → c ≤ n
@@ -37,7 +37,7 @@ record Joined (m : ℕ) (S : Tile → Bool) (l : List ℕ) (c j n k : ℕ) : Typ
   location : IsLocation j
   ends : endOf (locationTile j) ≡ endOf (locationTile k)
   holds : Holds (locationTile j) (locationTile k)
-  keeps : (x : Tile) → Under (tiles l) n x → Under (tiles l) c x ⊎ Holds (locationTile j) x
+  keeps : (x : Tile) → InStack (tiles l) n x → InStack (tiles l) c x ⊎ Holds (locationTile j) x
 
 joins-done : {m c j n k : ℕ} {l : List ℕ} (S : Tile → Bool) → Joins m l c j n k → IsLocation k → Onto m S (tiles l) n (locationTile k)
     → Joined m S l c j n k
@@ -65,11 +65,11 @@ pub record Mid (m : ℕ) (l₀ l : List ℕ) (count end i : ℕ) : Type 0 where
   pub each : (j : ℕ) → j < count → IsLocation (getD l j 0)
   pub stack : Stack m (named locationTile l₀) (tiles l) count
   pub ends : (j : ℕ) → j < count → endOf (tiles l j) ≤ end
-  pub read : (j : ℕ) → j < i → Under (tiles l) count (tiles l₀ j)
-  pub inside : (j : ℕ) → i ≤ j → j < length l₀ → getD l₀ j 0 < end → Under (tiles l) count (tiles l₀ j)
+  pub read : (j : ℕ) → j < i → InStack (tiles l) count (tiles l₀ j)
+  pub inside : (j : ℕ) → i ≤ j → j < length l₀ → getD l₀ j 0 < end → InStack (tiles l) count (tiles l₀ j)
 
-pub begun : (m : ℕ) (l : List ℕ) → Mid m l l 0 0 0
-begun m l = record {
+pub mid-begun : (m : ℕ) (l : List ℕ) → Mid m l l 0 0 0
+mid-begun m l = record {
   order = omega arith;
   within = omega arith;
   long = refl;
@@ -102,10 +102,10 @@ module _ (m : ℕ) (l₀ l : List ℕ) (count end i : ℕ) (f : TileNumbers loca
     inside = λ j g. M .inside j (omega arith);
   }
     where
-      read : (j : ℕ) → j < i + 1 → Under (tiles l) count (tiles l₀ j)
+      read : (j : ℕ) → j < i + 1 → InStack (tiles l) count (tiles l₀ j)
       read j g = pick (decLt j i)
         where
-          pick : Dec (j < i) → Under (tiles l) count (tiles l₀ j)
+          pick : Dec (j < i) → InStack (tiles l) count (tiles l₀ j)
           pick (yes q) = M .read j q
           pick (no q) = M .inside j (omega arith) (omega (arith, M .long))
               (omega (arith, M .rest j (omega arith), ap (λ (n : ℕ). getD l n 0) e))
@@ -158,12 +158,12 @@ module _ (m : ℕ) (l₀ l : List ℕ) (count end i : ℕ) (f : TileNumbers loca
       pick (yes e) = rw (same n (λ u. omega arith)) (a n e)
       pick (no e) = let u : n ≡ c = omega arith in rw (u, new) b
 
-  under : (x : Tile) → Under (tiles l) c x ⊎ Holds (locationTile j) x → Under (tiles (set l c j)) (c + 1) x
+  under : (x : Tile) → InStack (tiles l) c x ⊎ Holds (locationTile j) x → InStack (tiles (set l c j)) (c + 1) x
   under =
       push-under m S (tiles l) c (locationTile j) (done .top) (tiles (set l c j)) (λ n g. ap locationTile (same n (λ u. omega arith)))
       (ap locationTile new)
 
-  kept-under : (x : Tile) → Under (tiles l) count x → Under (tiles (set l c j)) (c + 1) x
+  kept-under : (x : Tile) → InStack (tiles l) count x → InStack (tiles (set l c j)) (c + 1) x
   kept-under x u =
       under x (⊎-elim (done .keeps x) (λ g. inr (holds-trans (done .holds) g))
       (pop-under m S (tiles l) count kept t (M .stack) (location .of-map) behind (q .within) off x u))
@@ -185,10 +185,10 @@ module _ (m : ℕ) (l₀ l : List ℕ) (count end i : ℕ) (f : TileNumbers loca
     inside = λ n a b g. under (tiles l₀ n) (inr (inside n a b g));
   }
     where
-      read : (n : ℕ) → n < i + 1 → Under (tiles (set l c j)) (c + 1) (tiles l₀ n)
+      read : (n : ℕ) → n < i + 1 → InStack (tiles (set l c j)) (c + 1) (tiles l₀ n)
       read n g = pick (decLt n i)
         where
-          pick : Dec (n < i) → Under (tiles (set l c j)) (c + 1) (tiles l₀ n)
+          pick : Dec (n < i) → InStack (tiles (set l c j)) (c + 1) (tiles l₀ n)
           pick (yes e) = kept-under (tiles l₀ n) (M .read n e)
           pick (no e) =
               let u : n ≡ i = omega arith in

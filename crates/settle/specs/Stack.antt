@@ -21,8 +21,8 @@ abbrev pub Among : (ℕ → Tile) → ℕ → Tile → Type 0
 Among T n x = (i : ℕ) × (i < n) × (T i ≡ x)
 
 -- x lies in one of the first n tiles
-abbrev pub Under : (ℕ → Tile) → ℕ → Tile → Type 0
-Under T n x = (i : ℕ) × (i < n) × Holds (T i) x
+abbrev pub InStack : (ℕ → Tile) → ℕ → Tile → Type 0
+InStack T n x = (i : ℕ) × (i < n) × Holds (T i) x
 
 pub record Stack (m : ℕ) (S : Tile → Bool) (T : ℕ → Tile) (n : ℕ) : Type 0 where
   pub of-map : (i : ℕ) → i < n → OfMap (T i)
@@ -60,10 +60,10 @@ stack-front {m} {S} {T} {n} k l s = record {
 -- the tiles that lie in t are taken off
 module _ (m : ℕ) (S : Tile → Bool) (T : ℕ → Tile) (n r : ℕ) (t : Tile) (s : Stack m S T n) (o : OfMap t)
     (past : (i : ℕ) → i < n → endOf (T i) ≤ locationOf t) (l : r ≤ n) (off : (i : ℕ) → r ≤ i → i < n → startOf t < locationOf (T i)) where
-  pub pop-under : (x : Tile) → Under T n x → Under T r x ⊎ Holds t x
+  pub pop-under : (x : Tile) → InStack T n x → InStack T r x ⊎ Holds t x
   pop-under x (i, h, k) = pick (decLt i r)
     where
-      pick : Dec (i < r) → Under T r x ⊎ Holds t x
+      pick : Dec (i < r) → InStack T r x ⊎ Holds t x
       pick (yes g) = inl (i, g, k)
       pick (no g) =
           inr (holds-trans (location-held t (T i) o (s .of-map i h) (off i (omega arith) h)
@@ -119,13 +119,13 @@ module _ (m : ℕ) (S : Tile → Bool) (T : ℕ → Tile) (n : ℕ) (t p : Tile)
   pub join-holds : Holds p t
   join-holds = rw (f .fourth) (child-held p 1 1 (omega arith) (omega arith))
 
-  pub join-under : (x : Tile) → Under T n x → Under T (n - 3) x ⊎ Holds p x
+  pub join-under : (x : Tile) → InStack T n x → InStack T (n - 3) x ⊎ Holds p x
   join-under x (i, h, k) = pick (decLt i (n - 3)) (decLt i (n - 2)) (decLt i (n - 1))
     where
       into : (a b j : ℕ) → a < 2 → b < 2 → T j ≡ child p a b → i ≡ j → Holds p x
       into a b j g q e u = holds-trans (child-held p a b g q) (subst (λ (v : Tile). Holds v x) (ap T u ∙ e) k)
 
-      pick : Dec (i < n - 3) → Dec (i < n - 2) → Dec (i < n - 1) → Under T (n - 3) x ⊎ Holds p x
+      pick : Dec (i < n - 3) → Dec (i < n - 2) → Dec (i < n - 1) → InStack T (n - 3) x ⊎ Holds p x
       pick (yes a) b c = inl (i, a, k)
       pick (no a) (yes b) c = inr (into 0 0 (n - 3) (omega arith) (omega arith) (f .first) (omega arith))
       pick (no a) (no b) (yes c) = inr (into 1 0 (n - 2) (omega arith) (omega arith) (f .second) (omega arith))
@@ -225,7 +225,7 @@ module _ (m : ℕ) (S : Tile → Bool) (T : ℕ → Tile) (n : ℕ) (t : Tile) (
       pick (yes l) = rw (same i (omega arith), same j l) (g .stack .rise i j h l)
       pick (no l) = let e : j ≡ n = omega arith in rw (e, top, same i (omega arith)) (g .above i (omega arith))
 
-  pub push-under : (x : Tile) → Under T n x ⊎ Holds t x → Under T' (n + 1) x
+  pub push-under : (x : Tile) → InStack T n x ⊎ Holds t x → InStack T' (n + 1) x
   push-under x (inl (i, h, k)) = (i, omega arith, rw (same i h) k)
   push-under x (inr k) = (n, omega arith, rw top k)
 

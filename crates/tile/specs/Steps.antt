@@ -39,8 +39,8 @@ upOf t = stepOf On Stay t
 abbrev pub downOf : Tile → Answer Tile
 downOf t = stepOf Back Stay t
 
-abbrev pub leftOf : Tile → Answer Tile
-leftOf t = stepOf Stay Back t
+abbrev pub leftTileOf : Tile → Answer Tile
+leftTileOf t = stepOf Stay Back t
 
 abbrev pub rightOf : Tile → Answer Tile
 rightOf t = stepOf Stay On t

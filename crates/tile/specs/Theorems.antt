@@ -16,7 +16,7 @@ use Rattle.errors.specs.Answer.{answer, _when_, _else_}
 use Rattle.tile.specs.OnMap.{OnMap, tileAt, noTile, tileRefusal, tryNew, on-map-accepted, accepted-on-map}
 use Rattle.tile.specs.Order.{Before, byNumber, tileOrder, less-if-before, before-if-less, equal-if-same, same-if-equal}
 use Rattle.tile.specs.Steps.{flipOf, stepped, leaves, stepOf}
-use Rattle.tile.specs.Steps.{upOf, downOf, leftOf, rightOf, upLeftOf, upRightOf, downLeftOf, downRightOf}
+use Rattle.tile.specs.Steps.{upOf, downOf, leftTileOf, rightOf, upLeftOf, upRightOf, downLeftOf, downRightOf}
 use Rattle.tile.specs.Rust.{To29, to-29-on-map, accepted, errIsTwo, offIsTwo}
 use Rattle.tile.specs.Rust.{rustTryNew, rustFlipy, rustFlip, rustCompare, thenBy, rustCmp, rustAlong, rustStep}
 use Rattle.tile.specs.Rust.{rustUp, rustDown, rustLeft, rustRight, rustUpLeft, rustUpRight, rustDownLeft, rustDownRight}
@@ -192,7 +192,7 @@ rust-up t m = rust-step On Stay t m
 pub rust-down : (t : Tile) → To29 (t .x) (t .y) (t .z) → offIsTwo (rustDown t) ≡ downOf t
 rust-down t m = rust-step Back Stay t m
 
-pub rust-left : (t : Tile) → To29 (t .x) (t .y) (t .z) → offIsTwo (rustLeft t) ≡ leftOf t
+pub rust-left : (t : Tile) → To29 (t .x) (t .y) (t .z) → offIsTwo (rustLeft t) ≡ leftTileOf t
 rust-left t m = rust-step Stay Back t m
 
 pub rust-right : (t : Tile) → To29 (t .x) (t .y) (t .z) → offIsTwo (rustRight t) ≡ rightOf t

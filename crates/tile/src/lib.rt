@@ -10,7 +10,7 @@ ghost use Rattle.tile.specs.Option.{unwrapOr};
 ghost use Rattle.tile.specs.OnMap.{tileRefusal, tileCase, sideOf, tryNew};
 ghost use Rattle.tile.specs.Order.{byNumber, tileOrder};
 ghost use Rattle.tile.specs.Steps.{flipOf, stepOf, steppedTo, placedAt};
-ghost use Rattle.tile.specs.Steps.{upOf, downOf, leftOf, rightOf, upLeftOf, upRightOf, downLeftOf, downRightOf};
+ghost use Rattle.tile.specs.Steps.{upOf, downOf, leftTileOf, rightOf, upLeftOf, upRightOf, downLeftOf, downRightOf};
 
 // x grows east, y south.
 pub struct Tile {
@@ -147,7 +147,7 @@ impl Tile {
 
     // The tile at (x, y - 1), where that is on the map; the name is the Rust's.
     pub fn left(self) -> TileAnswer
-        ensures { λ r. ⌜ tileCase r ≡ leftOf self ⌝ }
+        ensures { λ r. ⌜ tileCase r ≡ leftTileOf self ⌝ }
     {
         self.step(Step::Stay, Step::Back)
     }

@@ -63,8 +63,8 @@ child-held p i j a b = let e : suc (p .z) - p .z ≡ 1 = omega arith in
     record { above = omega arith; inx = rw e (omega arith); iny = rw e (omega arith) }
 
 -- what lies under a tile lies under one of its children
-pub cut : {p t : Tile} → Holds p t → p .z < t .z → (i : ℕ) × (j : ℕ) × (i < 2) × (j < 2) × Holds (child p i j) t
-cut {p} {t} h l = (
+pub in-a-child : {p t : Tile} → Holds p t → p .z < t .z → (i : ℕ) × (j : ℕ) × (i < 2) × (j < 2) × Holds (child p i j) t
+in-a-child {p} {t} h l = (
   digit (t .x),
   digit (t .y),
   omega arith,

@@ -8,7 +8,8 @@ use native.Mathlib.Omega.{arith}
 use lib.Dec.{leb, ltb}
 use borrow.Author.Tests.{leb-true, le-leb, ltb-true, lt-ltb, not-true}
 use Rattle.tile.specs.declared.Tile.{Tile}
-use Rattle.tile_set.specs.Holds.{Holds, holds-refl, holds-trans, holds-level, child-held, cut, parent-holds, parent-of-child, Valid}
+use Rattle.tile_set.specs.Holds.{Holds, holds-refl, holds-trans, holds-level, child-held, in-a-child}
+use Rattle.tile_set.specs.Holds.{parent-holds, parent-of-child, Valid}
 use Rattle.tile_set.specs.Holds.{child-of-parent, valid-holder}
 use Rattle.tile_set.specs.Set.{parentTile, child, whole, joins, joined, merged, passes}
 
@@ -150,7 +151,7 @@ module _ (m : ℕ) (S : Tile → Bool) where
           omega (arith, g .above)
 
       part : joined m S a ≡ true → a .z < b .z → (i : ℕ) × (j : ℕ) × (i < 2) × (j < 2) × (S (child a i j) ≡ true) × Holds (child a i j) b
-      part k l = let c = cut h l in (c .0, c .1, c .2, c .3, joined-four a k (c .0) (c .1) (c .2) (c .3), c .4)
+      part k l = let c = in-a-child h l in (c .0, c .1, c .2, c .3, joined-four a k (c .0) (c .1) (c .2) (c .3), c .4)
 
       pick : Dec (a .z < b .z) → ((S a ≡ true) × (joins m S a ≡ false)) ⊎ (joined m S a ≡ true)
           → ((S b ≡ true) × (joins m S b ≡ false)) ⊎ (joined m S b ≡ true) → a ≡ b

@@ -21,14 +21,14 @@ sameTile s t = eqb (s .x) (t .x) && (eqb (s .y) (t .y) && eqb (s .z) (t .z))
 abbrev pub empty : Tile → Bool
 empty t = false
 
-unfoldable pub insert : Tile → (Tile → Bool) → Tile → Bool
-insert a S t = sameTile t a || S t
+unfoldable pub insertTile : Tile → (Tile → Bool) → Tile → Bool
+insertTile a S t = sameTile t a || S t
 
 unfoldable pub remove : Tile → (Tile → Bool) → Tile → Bool
 remove a S t = not (sameTile t a) && S t
 
 abbrev pub extend : List Tile → (Tile → Bool) → Tile → Bool
-extend tiles S = foldl (λ R t. insert t R) S tiles
+extend tiles S = foldl (λ R t. insertTile t R) S tiles
 
 abbrev pub removeAll : List Tile → (Tile → Bool) → Tile → Bool
 removeAll tiles S = foldl (λ R t. remove t R) S tiles
@@ -59,23 +59,23 @@ fileUnder s t none = s
 fileUnder s t (some parent) = record { upwards = λ p. cond (sameTile p parent) (t ∷ s .upwards p) (s .upwards p); current = s .current }
 
 abbrev pub file : ℕ → Filed → Tile → Filed
-file m s t = cond (ltb m (t .z)) (fileUnder s t (parent t 0)) (record { upwards = s .upwards; current = insert t (s .current) })
+file m s t = cond (ltb m (t .z)) (fileUnder s t (parent t 0)) (record { upwards = s .upwards; current = insertTile t (s .current) })
 
 unfoldable pub rustFiled : ℕ → List Tile → Filed
 rustFiled m tiles = foldl (file m) (record { upwards = λ p. []; current = empty }) tiles
 
 -- what `merge` gives back
-pub record Merging : Type 0 where
+pub record MergeResult : Type 0 where
   pub current : Tile → Bool
   pub changed : Bool
 
-abbrev pub mergeGroup : ℕ → (Tile → List Tile) → Merging → Tile → Merging
+abbrev pub mergeGroup : ℕ → (Tile → List Tile) → MergeResult → Tile → MergeResult
 mergeGroup m upwards s supertile =
     cond (eqb (length (upwards supertile)) 4 && leb m (supertile .z))
-    (record { current = insert supertile (s .current); changed = true })
+    (record { current = insertTile supertile (s .current); changed = true })
     (record { current = extend (upwards supertile) (s .current); changed = s .changed })
 
-unfoldable pub rustMerge : ℕ → List Tile → List Tile → Merging
+unfoldable pub rustMerge : ℕ → List Tile → List Tile → MergeResult
 rustMerge m tiles supertiles =
     let s = rustFiled m tiles in
     foldl (mergeGroup m (s .upwards)) (record { current = s .current; changed = false }) supertiles
@@ -87,8 +87,8 @@ holdsSome roots (some parent) = roots parent
 
 abbrev pub keepRoot : ℕ → (Tile → Bool) → Tile → Tile → Bool
 keepRoot m roots t =
-    cond (leb (t .z) m) (insert t roots)
-    (cond (anyBelow (t .z) (λ i. leb m i && holdsSome roots (parent t i))) roots (insert t roots))
+    cond (leb (t .z) m) (insertTile t roots)
+    (cond (anyBelow (t .z) (λ i. leb m i && holdsSome roots (parent t i))) roots (insertTile t roots))
 
 unfoldable pub rustRoots : ℕ → List Tile → Tile → Bool
 rustRoots m tiles = foldl (keepRoot m) empty tiles
@@ -99,14 +99,14 @@ pub record Orders : Type 0 where
   pub supertiles : ℕ → (Tile → Bool) → List Tile
 
 -- `while is_merging`, with a bound on its turns: where the bound ends the loop, `changed` is still true
-unfoldable pub rustWhile : ℕ → ℕ → Orders → (Tile → Bool) → Merging
+unfoldable pub rustWhile : ℕ → ℕ → Orders → (Tile → Bool) → MergeResult
 rustWhile zero m o roots = record { current = roots; changed = true }
 rustWhile (suc turns) m o roots =
     let s = rustMerge m (o .tiles turns roots) (o .supertiles turns roots) in
     let more = rustWhile turns m o (s .current) in
     cond (s .changed) more s
 
-abbrev pub rustSimplifyV1 : ℕ → ℕ → Orders → List Tile → Merging
+abbrev pub rustSimplifyV1 : ℕ → ℕ → Orders → List Tile → MergeResult
 rustSimplifyV1 turns m o tiles = rustWhile turns m o (rustRoots m tiles)
 
 -- `.any(..)`
@@ -118,19 +118,19 @@ abbrev pub hasTileOrParent : (Tile → Bool) → Tile → Bool
 hasTileOrParent coverage t = coverage t || containsAny coverage (iterParents t)
 
 -- `x * 2`, `x * 2 + 1` and `z + 1`
-abbrev pub even : ℕ → ℕ
-even n = n * 2 % 2 ^ 32
+abbrev pub wrappedEven : ℕ → ℕ
+wrappedEven n = n * 2 % 2 ^ 32
 
-abbrev pub odd : ℕ → ℕ
-odd n = (n * 2 % 2 ^ 32 + 1) % 2 ^ 32
+abbrev pub wrappedOdd : ℕ → ℕ
+wrappedOdd n = (n * 2 % 2 ^ 32 + 1) % 2 ^ 32
 
 abbrev pub deeper : ℕ → ℕ
 deeper z = (z + 1) % 2 ^ 8
 
 abbrev pub children1 : Tile → List Tile
 children1 p =
-    tileAt (even (p .x)) (even (p .y)) (deeper (p .z)) ∷ tileAt (odd (p .x)) (even (p .y)) (deeper (p .z))
-    ∷ tileAt (even (p .x)) (odd (p .y)) (deeper (p .z)) ∷ tileAt (odd (p .x)) (odd (p .y)) (deeper (p .z)) ∷ []
+    tileAt (wrappedEven (p .x)) (wrappedEven (p .y)) (deeper (p .z)) ∷ tileAt (wrappedOdd (p .x)) (wrappedEven (p .y)) (deeper (p .z))
+    ∷ tileAt (wrappedEven (p .x)) (wrappedOdd (p .y)) (deeper (p .z)) ∷ tileAt (wrappedOdd (p .x)) (wrappedOdd (p .y)) (deeper (p .z)) ∷ []
 
 -- `siblings.iter().all(..)`
 unfoldable pub containsAll : (Tile → Bool) → List Tile → Bool
@@ -141,24 +141,24 @@ containsAll coverage (t ∷ ts) = coverage t && containsAll coverage ts
 unfoldable pub attemptMerge : ℕ → List Tile → (Tile → Bool) → Tile → Bool
 attemptMerge m [] coverage = coverage
 attemptMerge m (p ∷ parents) coverage =
-    let more = attemptMerge m parents (insert p (removeAll (children1 p) coverage)) in
+    let more = attemptMerge m parents (insertTile p (removeAll (children1 p) coverage)) in
     cond (ltb (p .z) m) coverage (cond (containsAll coverage (children1 p)) more coverage)
 
 abbrev pub put : ℕ → (Tile → Bool) → Tile → Tile → Bool
-put m coverage t = cond (hasTileOrParent coverage t) coverage (attemptMerge m (iterParents t) (insert t coverage))
+put m coverage t = cond (hasTileOrParent coverage t) coverage (attemptMerge m (iterParents t) (insertTile t coverage))
 
 unfoldable pub rustSimplify : ℕ → List Tile → Tile → Bool
 rustSimplify m tiles = foldl (put m) empty tiles
 
 -- each entry stands once
-abbrev pub Once : List Tile → Type 0
-Once [] = Unit {0}
-Once (a ∷ l) = (List·Memᴰ a l → ⊥) × Once l
+abbrev pub NoRepeats : List Tile → Type 0
+NoRepeats [] = Unit {0}
+NoRepeats (a ∷ l) = (List·Memᴰ a l → ⊥) × NoRepeats l
 
 -- an order in which a loop over the set can go
-pub record Walk (S : Tile → Bool) (tiles : List Tile) : Type 0 where
+pub record LoopOrder (S : Tile → Bool) (tiles : List Tile) : Type 0 where
   pub just : (t : Tile) → List·Memᴰ t tiles ↔ (S t ≡ true)
-  pub once : Once tiles
+  pub once : NoRepeats tiles
 
 -- an order in which a loop over the map of `merge` can go: it meets the tiles that have a group
 abbrev pub Keys : ℕ → List Tile → List Tile → Type 0
@@ -171,5 +171,5 @@ ByZoom (a ∷ l) = ((t : Tile) → List·Memᴰ t l → a .z ≤ t .z) × ByZoom
 
 -- the orders of every turn are such, for whatever set of tiles of zoom 0 to D it is given
 pub record Fair (D m : ℕ) (o : Orders) : Type 0 where
-  pub walks : (turn : ℕ) (S : Tile → Bool) → Within D S → Walk S (o .tiles turn S)
+  pub walks : (turn : ℕ) (S : Tile → Bool) → Within D S → LoopOrder S (o .tiles turn S)
   pub keys : (turn : ℕ) (S : Tile → Bool) → Within D S → Keys m (o .tiles turn S) (o .supertiles turn S)

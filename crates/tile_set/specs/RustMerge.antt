@@ -13,10 +13,11 @@ use Rattle.tile.specs.declared.Tile.{Tile}
 use Rattle.tile_set.specs.Holds.{parent-of-child}
 use Rattle.tile_set.specs.Merged.{is-false, bool-ext, whole-all, joins-when, joined-when, joined-four, joins-joined, joined-joins}
 use Rattle.tile_set.specs.Merged.{merged-cases, merged-kept, merged-joined}
-use Rattle.tile_set.specs.Rust.{sameTile, empty, insert, extend, parent, Filed, fileUnder, file, rustFiled, Merging, mergeGroup}
-use Rattle.tile_set.specs.Rust.{rustMerge, Once, Walk, Keys}
+use Rattle.tile_set.specs.Rust.{sameTile, empty, insertTile, extend, parent, Filed, fileUnder, file, rustFiled, MergeResult}
+use Rattle.tile_set.specs.Rust.{mergeGroup, rustMerge, NoRepeats, LoopOrder, Keys}
 use Rattle.tile_set.specs.RustParents.{has-parent}
-use Rattle.tile_set.specs.RustSets.{same-tile, tile-same, insert-cases, insert-here, insert-old, extend-old, extend-in, extend-cases}
+use Rattle.tile_set.specs.RustSets.{same-means-equal, same-as-itself, insert-cases, insert-here, insert-old}
+use Rattle.tile_set.specs.RustSets.{extend-old, extend-in, extend-cases}
 use Rattle.tile_set.specs.RustSets.{loop-keeps, after-turn, at-end, same-zoom, four-all, all-four}
 use Rattle.tile_set.specs.Set.{parentTile, child, whole, joins, joined, merged}
 
@@ -29,11 +30,11 @@ module _ (m : ℕ) (S : Tile → Bool) where
   record Filing (s : Filed) (rest : List Tile) : Type 0 where
     grouped : (p t : Tile) → List·Memᴰ t (s .upwards p) → Under p rest t
     high : (t : Tile) → S t ≡ true → m < t .z → List·Memᴰ t (s .upwards (parentTile t)) ⊎ List·Memᴰ t rest
-    once : (p : Tile) → Once (s .upwards p)
+    once : (p : Tile) → NoRepeats (s .upwards p)
     low-of : (t : Tile) → s .current t ≡ true → (S t ≡ true) × (t .z ≤ m)
     low : (t : Tile) → S t ≡ true → t .z ≤ m → (s .current t ≡ true) ⊎ List·Memᴰ t rest
     rest-of : (t : Tile) → List·Memᴰ t rest → S t ≡ true
-    rest-once : Once rest
+    rest-once : NoRepeats rest
 
   file-keeps : (s : Filed) (t : Tile) (rest : List Tile) → Filing s (t ∷ rest) → Filing (file m s t) rest
   file-keeps s t rest h = pick (ltb m (t .z)) refl
@@ -49,7 +50,7 @@ module _ (m : ℕ) (S : Tile → Bool) where
       under p u true e l i = ⊎-elim new (old-under p u) (List·Memᴰ·cases-cons i)
         where
           new : u ≡ t → Under p rest u
-          new k = rw k (h .rest-of t (List·Memᴰ·head refl), l, sym (same-tile p (parentTile t) e), h .rest-once .0)
+          new k = rw k (h .rest-of t (List·Memᴰ·head refl), l, sym (same-means-equal p (parentTile t) e), h .rest-once .0)
 
       grown : (p u : Tile) (b : Bool) → List·Memᴰ u (s .upwards p) → List·Memᴰ u (group p b)
       grown p u true i = List·Memᴰ·tail i
@@ -58,15 +59,15 @@ module _ (m : ℕ) (S : Tile → Bool) where
       here : (u : Tile) → u ≡ t → List·Memᴰ u (group (parentTile u) (sameTile (parentTile u) (parentTile t)))
       here u e =
           let k : sameTile (parentTile u) (parentTile t) ≡ true =
-          ap (λ (v : Tile). sameTile (parentTile v) (parentTile t)) e ∙ tile-same (parentTile t) in
+          ap (λ (v : Tile). sameTile (parentTile v) (parentTile t)) e ∙ same-as-itself (parentTile t) in
           rw k (List·Memᴰ·head e)
 
-      grown-once : (p : Tile) (b : Bool) → Once (group p b)
+      grown-once : (p : Tile) (b : Bool) → NoRepeats (group p b)
       grown-once p true = (λ i. h .grouped p t i .3 (List·Memᴰ·head refl), h .once p)
       grown-once p false = h .once p
 
       pick : (b : Bool) → ltb m (t .z) ≡ b
-          → Filing (cond b (fileUnder s t (parent t 0)) (record { upwards = s .upwards; current = insert t (s .current) })) rest
+          → Filing (cond b (fileUnder s t (parent t 0)) (record { upwards = s .upwards; current = insertTile t (s .current) })) rest
       pick true e = rw (has-parent t (omega (arith, ltb-true m (t .z) e))) (record {
         grouped = λ p u. under p u (sameTile p (parentTile t)) refl (ltb-true m (t .z) e);
         high = λ u k l. after-turn (grown (parentTile u) u (sameTile (parentTile u) (parentTile t))) (here u) (h .high u k l);
@@ -88,7 +89,7 @@ module _ (m : ℕ) (S : Tile → Bool) where
       }
 
   -- the second loop, with the supertiles `rest` still to come
-  record Joining (s : Merging) (rest : List Tile) : Type 0 where
+  record Joining (s : MergeResult) (rest : List Tile) : Type 0 where
     sound : (t : Tile) → s .current t ≡ true → merged m S t ≡ true
     low : (t : Tile) → S t ≡ true → t .z ≤ m → s .current t ≡ true
     kept : (t : Tile) → S t ≡ true → m < t .z → joins m S t ≡ false → (s .current t ≡ true) ⊎ List·Memᴰ (parentTile t) rest
@@ -123,10 +124,10 @@ module _ (m : ℕ) (S : Tile → Bool) where
             let n : length (f .upwards p) ≡ 4 = all-four p (f .upwards p) (filed .once p) children (child-in-group p e) in
             and-eq-true-iff (eqb (length (f .upwards p)) 4) (leb m (p .z)) .1 (eq-eqb _ _ n, le-leb _ _ (joined-when m S p .0 e .0))
 
-    group-keeps : (s : Merging) (p : Tile) (rest : List Tile) → Joining s (p ∷ rest) → Joining (mergeGroup m (f .upwards) s p) rest
+    group-keeps : (s : MergeResult) (p : Tile) (rest : List Tile) → Joining s (p ∷ rest) → Joining (mergeGroup m (f .upwards) s p) rest
     group-keeps s p rest h = rw (group-joined p) (pick (joined m S p) refl)
       where
-        pick : (b : Bool) → joined m S p ≡ b → Joining (cond b (record { current = insert p (s .current); changed = true })
+        pick : (b : Bool) → joined m S p ≡ b → Joining (cond b (record { current = insertTile p (s .current); changed = true })
             (record { current = extend (f .upwards p) (s .current); changed = s .changed })) rest
         pick true e = record {
           sound = λ t k. ⊎-elim (λ q. merged-joined m S t (ap (joined m S) q ∙ e)) (h .sound t) (insert-cases p (s .current) t k);
@@ -158,7 +159,7 @@ module _ (m : ℕ) (S : Tile → Bool) where
             other : (q : Tile) → joined m S q ≡ true → q ≡ p → ⊥
             other q k a = true≢false (sym k ∙ (ap (joined m S) a ∙ e))
 
-  filed-all : (tiles : List Tile) → Walk S tiles → Filing (rustFiled m tiles) []
+  filed-all : (tiles : List Tile) → LoopOrder S tiles → Filing (rustFiled m tiles) []
   unfolding rustFiled
   filed-all tiles w =
       loop-keeps Filing (file m) file-keeps (record { upwards = λ p. []; current = empty }) tiles (record {
@@ -171,11 +172,11 @@ module _ (m : ℕ) (S : Tile → Bool) where
         rest-once = w .once;
       })
 
-  pub group-of : (tiles : List Tile) → Walk S tiles → (p t : Tile) → List·Memᴰ t (rustFiled m tiles .upwards p)
+  pub group-of : (tiles : List Tile) → LoopOrder S tiles → (p t : Tile) → List·Memᴰ t (rustFiled m tiles .upwards p)
       → (S t ≡ true) × (parentTile t ≡ p)
   group-of tiles w p t i = let g = filed-all tiles w .grouped p t i in (g .0, g .2)
 
-  module _ (tiles supertiles : List Tile) (walk : Walk S tiles) (keys : Keys m tiles supertiles) where
+  module _ (tiles supertiles : List Tile) (walk : LoopOrder S tiles) (keys : Keys m tiles supertiles) where
     joined-all : Joining (rustMerge m tiles supertiles) []
     unfolding rustMerge
     joined-all =

@@ -13,47 +13,47 @@ use Rattle.tile.specs.Order.{tile-ext}
 use Rattle.tile.specs.declared.Tile.{Tile}
 use Rattle.tile_set.specs.Holds.{child-of-parent}
 use Rattle.tile_set.specs.Merged.{or-cases, is-false}
-use Rattle.tile_set.specs.Rust.{sameTile, insert, remove, extend, removeAll, children1, containsAll, Once}
+use Rattle.tile_set.specs.Rust.{sameTile, insertTile, remove, extend, removeAll, children1, containsAll, NoRepeats}
 use Rattle.tile_set.specs.Set.{parentTile, child, whole}
 
-pub same-tile : (s t : Tile) → sameTile s t ≡ true → s ≡ t
-same-tile s t e =
+pub same-means-equal : (s t : Tile) → sameTile s t ≡ true → s ≡ t
+same-means-equal s t e =
     let i = and-eq-true-iff (eqb (s .x) (t .x)) (eqb (s .y) (t .y) && eqb (s .z) (t .z)) .0 e in
     let j = and-eq-true-iff (eqb (s .y) (t .y)) (eqb (s .z) (t .z)) .0 (i .1) in
     tile-ext s t (eqb-true _ _ (i .0)) (eqb-true _ _ (j .0)) (eqb-true _ _ (j .1))
 
-pub tile-same : (t : Tile) → sameTile t t ≡ true
-tile-same t = rw (eq-eqb (t .x) (t .x) refl, eq-eqb (t .y) (t .y) refl, eq-eqb (t .z) (t .z) refl)
+pub same-as-itself : (t : Tile) → sameTile t t ≡ true
+same-as-itself t = rw (eq-eqb (t .x) (t .x) refl, eq-eqb (t .y) (t .y) refl, eq-eqb (t .z) (t .z) refl)
 
 decTile : (s t : Tile) → Dec (s ≡ t)
 decTile s t = pick (sameTile s t) refl
   where
     pick : (b : Bool) → sameTile s t ≡ b → Dec (s ≡ t)
-    pick true e = yes (same-tile s t e)
-    pick false e = no (λ k. true≢false (sym (tile-same t) ∙ (ap (λ (u : Tile). sameTile u t) (sym k) ∙ e)))
+    pick true e = yes (same-means-equal s t e)
+    pick false e = no (λ k. true≢false (sym (same-as-itself t) ∙ (ap (λ (u : Tile). sameTile u t) (sym k) ∙ e)))
 
 module _ (a : Tile) (S : Tile → Bool) where
-  pub insert-cases : (t : Tile) → insert a S t ≡ true → (t ≡ a) ⊎ (S t ≡ true)
-  unfolding insert
-  insert-cases t e = ⊎-elim (λ k. inl (same-tile t a k)) inr (or-cases (sameTile t a) (S t) e)
+  pub insert-cases : (t : Tile) → insertTile a S t ≡ true → (t ≡ a) ⊎ (S t ≡ true)
+  unfolding insertTile
+  insert-cases t e = ⊎-elim (λ k. inl (same-means-equal t a k)) inr (or-cases (sameTile t a) (S t) e)
 
-  pub insert-here : (t : Tile) → t ≡ a → insert a S t ≡ true
-  unfolding insert
-  insert-here t e = rw (ap (λ (u : Tile). sameTile u a) e ∙ tile-same a)
+  pub insert-here : (t : Tile) → t ≡ a → insertTile a S t ≡ true
+  unfolding insertTile
+  insert-here t e = rw (ap (λ (u : Tile). sameTile u a) e ∙ same-as-itself a)
 
-  pub insert-old : (t : Tile) → S t ≡ true → insert a S t ≡ true
-  unfolding insert
+  pub insert-old : (t : Tile) → S t ≡ true → insertTile a S t ≡ true
+  unfolding insertTile
   insert-old t e = rw e (or-true (sameTile t a))
 
   remove-of : (t : Tile) → remove a S t ≡ true → (t ≡ a → ⊥) × (S t ≡ true)
   unfolding remove
   remove-of t e =
       let i = and-eq-true-iff (not (sameTile t a)) (S t) .0 e in
-      (λ k. true≢false (sym (tile-same a) ∙ (ap (λ (u : Tile). sameTile u a) (sym k) ∙ not-true (sameTile t a) (i .0))), i .1)
+      (λ k. true≢false (sym (same-as-itself a) ∙ (ap (λ (u : Tile). sameTile u a) (sym k) ∙ not-true (sameTile t a) (i .0))), i .1)
 
   remove-in : (t : Tile) → (t ≡ a → ⊥) → S t ≡ true → remove a S t ≡ true
   unfolding remove
-  remove-in t n e = rw (e, is-false (sameTile t a) (λ k. n (same-tile t a k)))
+  remove-in t n e = rw (e, is-false (sameTile t a) (λ k. n (same-means-equal t a k)))
 
 not-in : {t a : Tile} {l : List Tile} → (t ≡ a → ⊥) → (List·Memᴰ t l → ⊥) → List·Memᴰ t (a ∷ l) → ⊥
 not-in n o i = ⊎-elim n o (List·Memᴰ·cases-cons i)
@@ -71,18 +71,18 @@ remove-all-in (a ∷ l) S t e n = remove-all-in l (remove a S) t (remove-in a S 
 
 pub extend-old : (l : List Tile) (S : Tile → Bool) (t : Tile) → S t ≡ true → extend l S t ≡ true
 extend-old [] S t e = e
-extend-old (a ∷ l) S t e = extend-old l (insert a S) t (insert-old a S t e)
+extend-old (a ∷ l) S t e = extend-old l (insertTile a S) t (insert-old a S t e)
 
 pub extend-in : (l : List Tile) (S : Tile → Bool) (t : Tile) → List·Memᴰ t l → extend l S t ≡ true
 extend-in [] S t i = absurd (List·Memᴰ·not-nil i)
 extend-in (a ∷ l) S t i =
-    ⊎-elim (λ e. extend-old l (insert a S) t (insert-here a S t e)) (λ k. extend-in l (insert a S) t k) (List·Memᴰ·cases-cons i)
+    ⊎-elim (λ e. extend-old l (insertTile a S) t (insert-here a S t e)) (λ k. extend-in l (insertTile a S) t k) (List·Memᴰ·cases-cons i)
 
 pub extend-cases : (l : List Tile) (S : Tile → Bool) (t : Tile) → extend l S t ≡ true → List·Memᴰ t l ⊎ (S t ≡ true)
 extend-cases [] S t e = inr e
 extend-cases (a ∷ l) S t e =
     ⊎-elim (λ i. inl (List·Memᴰ·tail i)) (λ k. ⊎-elim (λ s. inl (List·Memᴰ·head s)) inr (insert-cases a S t k))
-    (extend-cases l (insert a S) t e)
+    (extend-cases l (insertTile a S) t e)
 
 -- what each turn of a loop keeps, as it speaks of the tiles still to come, holds at the end, where none is to come
 pub loop-keeps : {A : Type 0} (P : A → List Tile → Type 0) (f : A → Tile → A)
@@ -132,7 +132,7 @@ without a (b ∷ l) i = pick (List·Memᴰ·cases-cons i) (without a l)
     }
 
 -- a list that has each of its tiles once is no longer than another that has them all
-once-shorter : (l k : List Tile) → Once l → ((t : Tile) → List·Memᴰ t l → List·Memᴰ t k) → length l ≤ length k
+once-shorter : (l k : List Tile) → NoRepeats l → ((t : Tile) → List·Memᴰ t l → List·Memᴰ t k) → length l ≤ length k
 once-shorter [] k o f = omega arith
 once-shorter (a ∷ l) k o f =
     let w = without a k (f a (List·Memᴰ·head refl)) in
@@ -202,7 +202,7 @@ module _ (p : Tile) where
   other-row : (i j k n : ℕ) → (j ≡ n → ⊥) → child p i j ≡ child p k n → ⊥
   other-row i j k n d e = let c : 2 * p .y + j ≡ 2 * p .y + n = ap (λ (t : Tile). t .y) e in d (omega arith)
 
-  once-four : Once (fourOf p)
+  once-four : NoRepeats (fourOf p)
   once-four = (
     not-in (other-column 0 0 1 0 (λ e. omega arith))
         (not-in (other-row 0 0 0 1 (λ e. omega arith)) (not-in (other-row 0 0 1 1 (λ e. omega arith)) List·Memᴰ·not-nil)),
@@ -213,7 +213,7 @@ module _ (p : Tile) where
   )
 
 -- a list that has children of p, each once, has four entries exactly where it has all four
-module _ (p : Tile) (l : List Tile) (once : Once l) (children : (t : Tile) → List·Memᴰ t l → (0 < t .z) × (parentTile t ≡ p)) where
+module _ (p : Tile) (l : List Tile) (once : NoRepeats l) (children : (t : Tile) → List·Memᴰ t l → (0 < t .z) × (parentTile t ≡ p)) where
   all-in-four : (t : Tile) → List·Memᴰ t l → List·Memᴰ t (fourOf p)
   all-in-four t i = let c = children t i in child-in-four p t (c .0) (c .1)
 

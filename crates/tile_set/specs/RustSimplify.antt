@@ -14,7 +14,7 @@ use Rattle.tile_set.specs.Holds.{valid-holder}
 use Rattle.tile_set.specs.Merged.{Within, Apart, or-cases, is-false, bool-ext, whole-all, joins-when, joined-when, joined-four}
 use Rattle.tile_set.specs.Merged.{joined-joins}
 use Rattle.tile_set.specs.Merged.{merged-cases, merged-kept, merged-joined, merged-covers, merged-apart}
-use Rattle.tile_set.specs.Rust.{empty, insert, removeAll, containsAll, attemptMerge, put, rustSimplify, ByZoom, Walk}
+use Rattle.tile_set.specs.Rust.{empty, insertTile, removeAll, containsAll, attemptMerge, put, rustSimplify, ByZoom, LoopOrder}
 use Rattle.tile_set.specs.RustParents.{ancestorsFrom, parents-are, any-ancestor}
 use Rattle.tile_set.specs.RustSets.{insert-cases, insert-here, insert-old, remove-all-of, remove-all-in, loop-keeps, after-turn}
 use Rattle.tile_set.specs.RustSets.{at-end}
@@ -51,13 +51,13 @@ each-or {G} P f =
 
 -- where p's four children are the only four together, to put p in their place is a pass of merging
 one-family-merged : (m : ℕ) (p : Tile) (C : Tile → Bool) → m ≤ p .z → whole C p ≡ true → ((q : Tile) → m ≤ q .z → whole C q ≡ true → q ≡ p)
-    → insert p (removeAll (fourOf p) C) ≡ merged m C
-one-family-merged m p C l w only = fun-ext (λ t. bool-ext (insert p (removeAll (fourOf p) C) t) (merged m C t) (to t) (from t))
+    → insertTile p (removeAll (fourOf p) C) ≡ merged m C
+one-family-merged m p C l w only = fun-ext (λ t. bool-ext (insertTile p (removeAll (fourOf p) C) t) (merged m C t) (to t) (from t))
   where
     is-joined : joined m C p ≡ true
     is-joined = joined-when m C p .1 (l, w)
 
-    to : (t : Tile) → insert p (removeAll (fourOf p) C) t ≡ true → merged m C t ≡ true
+    to : (t : Tile) → insertTile p (removeAll (fourOf p) C) t ≡ true → merged m C t ≡ true
     to t e = ⊎-elim (λ q. merged-joined m C t (ap (joined m C) q ∙ is-joined)) other (insert-cases p (removeAll (fourOf p) C) t e)
       where
         other : removeAll (fourOf p) C t ≡ true → merged m C t ≡ true
@@ -68,16 +68,16 @@ one-family-merged m p C l w only = fun-ext (λ t. bool-ext (insert p (removeAll 
             let f : parentTile t ≡ p = only (parentTile t) (omega (arith, g .0)) (g .1) in
             r .1 (child-in-four p t (omega (arith, g .0)) f)))
 
-    from : (t : Tile) → merged m C t ≡ true → insert p (removeAll (fourOf p) C) t ≡ true
+    from : (t : Tile) → merged m C t ≡ true → insertTile p (removeAll (fourOf p) C) t ≡ true
     from t e = ⊎-elim stays new (merged-cases m C t e)
       where
-        stays : (C t ≡ true) × (joins m C t ≡ false) → insert p (removeAll (fourOf p) C) t ≡ true
+        stays : (C t ≡ true) × (joins m C t ≡ false) → insertTile p (removeAll (fourOf p) C) t ≡ true
         stays k = insert-old p (removeAll (fourOf p) C) t (remove-all-in (fourOf p) C t (k .0) (λ i. true≢false (sym (goes i) ∙ k .1)))
           where
             goes : List·Memᴰ t (fourOf p) → joins m C t ≡ true
             goes = each-of-four p (λ (u : Tile). joins m C u ≡ true) (λ i j a b. joined-joins m C p i j a b is-joined) t
 
-        new : joined m C t ≡ true → insert p (removeAll (fourOf p) C) t ≡ true
+        new : joined m C t ≡ true → insertTile p (removeAll (fourOf p) C) t ≡ true
         new k =
             let g = joined-when m C t .0 k in
             insert-here p (removeAll (fourOf p) C) t (only t (g .0) (g .1))
@@ -155,14 +155,14 @@ module _ (m : ℕ) (S : Tile → Bool) (small : Within 29 S) where
       let p = ancestor t s in
       let u = valid-holder (ancestor-holds t s (omega arith)) v in
       subst attempted (sym (children1-are-four p (omega (arith, v .zoom)) (u .column) (u .row))) (rw (contains-four C p)
-      (pick (ltb s m) refl (whole C p) refl (attempt-keeps s t (insert p (removeAll (fourOf p) C)) rest v (omega arith))))
+      (pick (ltb s m) refl (whole C p) refl (attempt-keeps s t (insertTile p (removeAll (fourOf p) C)) rest v (omega arith))))
     where
       -- what is to be shown, of the children as they are computed
       attempted : List Tile → Type 0
       attempted four =
           let p = ancestor t s in
           Covering none-pending
-          (cond (ltb s m) C (cond (containsAll C four) (attemptMerge m (ancestorsFrom t s) (insert p (removeAll four C))) C)) rest
+          (cond (ltb s m) C (cond (containsAll C four) (attemptMerge m (ancestorsFrom t s) (insertTile p (removeAll four C))) C)) rest
 
       only : (q : Tile) → m ≤ q .z → whole C q ≡ true → q ≡ ancestor t s
       only q a w =
@@ -171,7 +171,7 @@ module _ (m : ℕ) (S : Tile → Bool) (small : Within 29 S) where
           holder-is-ancestor (f .1) ∙ ap (ancestor t) e
 
       next : Tile → Bool
-      next = insert (ancestor t s) (removeAll (fourOf (ancestor t s)) C)
+      next = insertTile (ancestor t s) (removeAll (fourOf (ancestor t s)) C)
 
       pick : (b : Bool) → ltb s m ≡ b → (c : Bool) → whole C (ancestor t s) ≡ c
           → (Covering (next-pending t s) next rest → Covering none-pending (attemptMerge m (ancestorsFrom t s) next) rest)
@@ -200,7 +200,7 @@ module _ (m : ℕ) (S : Tile → Bool) (small : Within 29 S) where
   -- a tile that no tile of the coverage holds, and that holds none of them, since their zooms are no deeper
   insert-keeps : (C : Tile → Bool) (t : Tile) (rest : List Tile) → Covering none-pending C (t ∷ rest)
       → ((r : Tile) → C r ≡ true → Holds r t → ⊥)
-      → Covering (next-pending t (t .z)) (insert t C) rest
+      → Covering (next-pending t (t .z)) (insertTile t C) rest
   insert-keeps C t rest h free = record {
     built = λ u e. ⊎-elim (λ q. listed (ap S q ∙ h .rest-of t (List·Memᴰ·head refl))) (h .built u) (insert-cases t C u e);
     covers = λ s e. after-turn (λ (r, c, g). (r, insert-old t C r c, g)) (λ q. (s, insert-here t C s q, holds-refl s)) (h .covers s e);
@@ -218,11 +218,11 @@ module _ (m : ℕ) (S : Tile → Bool) (small : Within 29 S) where
       apart a b g (inr p) (inl q) = absurd (free a p (rw q at g))
       apart a b g (inr p) (inr q) = h .apart a b p q g
 
-      families : (p : Tile) → m ≤ p .z → whole (insert t C) p ≡ true → next-pending t (t .z) p
+      families : (p : Tile) → m ≤ p .z → whole (insertTile t C) p ≡ true → next-pending t (t .z) p
       families p l w =
           ⊎-elim (λ f. absurd (h .families p l (whole-all C p .1 f))) (λ g. g) (each-or (λ i j. C (child p i j) ≡ true)
           (λ i j a b. ⊎-elim (λ q. inr (same-zoom q, rw q at (child-held p i j a b))) inl
-          (insert-cases t C (child p i j) (whole-all (insert t C) p .0 w i j a b))))
+          (insert-cases t C (child p i j) (whole-all (insertTile t C) p .0 w i j a b))))
 
   put-keeps : (C : Tile → Bool) (t : Tile) (rest : List Tile) → Covering none-pending C (t ∷ rest) → Covering none-pending (put m C t) rest
   put-keeps C t rest h = rw (parents-are t (omega (arith, here .zoom)), any-ancestor C t (t .z)) (pick covered refl)
@@ -248,13 +248,13 @@ module _ (m : ℕ) (S : Tile → Bool) (small : Within 29 S) where
           found (yes l) = rw (any-below-in (t .z) (λ s. C (ancestor t s)) (r .z) l (sym (ap C (holder-is-ancestor g)) ∙ c)) (or-true (C t))
           found (no l) = rw (sym (ap C (holds-level g (omega arith))) ∙ c)
 
-      pick : (b : Bool) → covered ≡ b → Covering none-pending (cond b C (attemptMerge m (ancestorsFrom t (t .z)) (insert t C))) rest
+      pick : (b : Bool) → covered ≡ b → Covering none-pending (cond b C (attemptMerge m (ancestorsFrom t (t .z)) (insertTile t C))) rest
       pick true e = held-keeps C t rest h (held e)
       pick false e =
-          attempt-keeps (t .z) t (insert t C) rest here (omega arith)
+          attempt-keeps (t .z) t (insertTile t C) rest here (omega arith)
           (insert-keeps C t rest h (λ r c g. true≢false (sym (holder-found r c g) ∙ e)))
 
-  pub rust-simplest : (tiles : List Tile) → Walk S tiles → ByZoom tiles → Simplest m S (rustSimplify m tiles)
+  pub rust-simplest : (tiles : List Tile) → LoopOrder S tiles → ByZoom tiles → Simplest m S (rustSimplify m tiles)
   unfolding rustSimplify
   rust-simplest tiles w order =
       let end : Covering none-pending (rustSimplify m tiles) [] = loop-keeps (Covering none-pending) (put m) put-keeps empty tiles start in

@@ -10,8 +10,8 @@ use borrow.Author.Tests.{leb-true, le-leb}
 use Rattle.tile.specs.declared.Tile.{Tile}
 use Rattle.tile_set.specs.Holds.{Holds, holds-trans, ancestor-holds, holder-is-ancestor}
 use Rattle.tile_set.specs.Merged.{Within, is-false, bool-ext, merged-same, merged-within}
-use Rattle.tile_set.specs.Rust.{empty, insert, parent, Merging, rustMerge, holdsSome, keepRoot, rustRoots, Orders, rustWhile}
-use Rattle.tile_set.specs.Rust.{ByZoom, Walk, Fair}
+use Rattle.tile_set.specs.Rust.{empty, insertTile, parent, MergeResult, rustMerge, holdsSome, keepRoot, rustRoots, Orders, rustWhile}
+use Rattle.tile_set.specs.Rust.{ByZoom, LoopOrder, Fair}
 use Rattle.tile_set.specs.RustMerge.{rust-merged, rust-changed}
 use Rattle.tile_set.specs.RustParents.{parent-is}
 use Rattle.tile_set.specs.RustSets.{insert-cases, insert-here, insert-old, loop-keeps, after-turn, at-end, same-zoom}
@@ -44,7 +44,7 @@ module _ (m : ℕ) (S : Tile → Bool) where
       here : S t ≡ true
       here = h .rest-of t (List·Memᴰ·head refl)
 
-      in-roots : uncovered m S t ≡ true → Rooting (insert t roots) rest
+      in-roots : uncovered m S t ≡ true → Rooting (insertTile t roots) rest
       in-roots e = record {
         sound = λ u k. ⊎-elim (λ q. ap (uncovered m S) q ∙ e) (h .sound u) (insert-cases t roots u k);
         kept = λ u k. after-turn (insert-old t roots u) (insert-here t roots u) (h .kept u k);
@@ -95,12 +95,12 @@ module _ (m : ℕ) (S : Tile → Bool) where
           uncovered-of m S t k .1 (u .z) (omega (arith, i .1)) (uncovered-of m S u (h .sound u (f .1)) .0)
 
       pick : (b : Bool) → leb (t .z) m ≡ b → (c : Bool) → anyBelow (t .z) found ≡ c
-          → Rooting (cond b (insert t roots) (cond c roots (insert t roots))) rest
+          → Rooting (cond b (insertTile t roots) (cond c roots (insertTile t roots))) rest
       pick true e c k = in-roots (shallow (leb-true _ _ e))
       pick false e true k = left-out (under-root k)
       pick false e false k = in-roots (bare k)
 
-  pub rust-roots : (tiles : List Tile) → Walk S tiles → ByZoom tiles → (t : Tile) → rustRoots m tiles t ≡ uncovered m S t
+  pub rust-roots : (tiles : List Tile) → LoopOrder S tiles → ByZoom tiles → (t : Tile) → rustRoots m tiles t ≡ uncovered m S t
   unfolding rustRoots
   rust-roots tiles w order t = bool-ext (rustRoots m tiles t) (uncovered m S t) (end .sound t) (λ e. at-end (end .kept t e))
     where
@@ -125,12 +125,12 @@ passes-first zero m S = refl
 passes-first (suc n) m S = ap (merged m) (passes-first n m S)
 
 -- the loop has ended by itself, with the set R
-abbrev pub Ends : Merging → (Tile → Bool) → Type 0
-Ends s R = (s .current ≡ R) × (s .changed ≡ false)
+abbrev pub LoopEnds : MergeResult → (Tile → Bool) → Type 0
+LoopEnds s R = (s .current ≡ R) × (s .changed ≡ false)
 
 module _ (D m : ℕ) (o : Orders) (fair : Fair D m o) where
   turn : (n : ℕ) (S R : Tile → Bool) → Within D S → (((t : Tile) → joins m S t ≡ false) → S ≡ R)
-      → ((t : Tile) × (joins m S t ≡ true) → Ends (rustWhile n m o (merged m S)) R) → Ends (rustWhile (suc n) m o S) R
+      → ((t : Tile) × (joins m S t ≡ true) → LoopEnds (rustWhile n m o (merged m S)) R) → LoopEnds (rustWhile (suc n) m o S) R
   unfolding rustWhile
   turn n S R w stop go = pick (rustMerge m (o .tiles n S) (o .supertiles n S) .changed) refl
     where
@@ -144,14 +144,14 @@ module _ (D m : ℕ) (o : Orders) (fair : Fair D m o) where
       none e t = is-false (joins m S t) (λ k. true≢false (sym (changes .1 (t, k)) ∙ e))
 
       pick : (b : Bool) → rustMerge m (o .tiles n S) (o .supertiles n S) .changed ≡ b
-          → Ends (cond b (rustWhile n m o (rustMerge m (o .tiles n S) (o .supertiles n S) .current))
+          → LoopEnds (cond b (rustWhile n m o (rustMerge m (o .tiles n S) (o .supertiles n S) .current))
           (rustMerge m (o .tiles n S) (o .supertiles n S))) R
       pick true e = rw merges (go (changes .0 e))
       pick false e = (merges ∙ (fun-ext (merged-same m S (none e)) ∙ stop (none e)), e)
 
   -- where k passes are enough, so are k + 1 turns of the loop, the last of which changes nothing
   pub while-ends : (n k : ℕ) (S : Tile → Bool) → k ≤ n → Within D S → ((t : Tile) → joins m (passes k m S) t ≡ false)
-      → Ends (rustWhile (suc n) m o S) (passes k m S)
+      → LoopEnds (rustWhile (suc n) m o S) (passes k m S)
   unfolding passes
   while-ends n zero S l w settled = turn n S S w (λ none. refl) (λ j. absurd (true≢false (sym (j .1) ∙ settled (j .0))))
   while-ends zero (suc k) S l w settled = absurd (omega arith)

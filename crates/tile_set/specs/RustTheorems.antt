@@ -14,7 +14,8 @@ use Rattle.tile.specs.declared.Tile.{Tile}
 use Rattle.tile_set.specs.Holds.{Valid, valid-parent}
 use Rattle.tile_set.specs.InOrder.{before-irrefl, Ordered, in-order-of, in-order-in, in-order-ordered}
 use Rattle.tile_set.specs.Merged.{Within, still-joins}
-use Rattle.tile_set.specs.Rust.{rustFiled, rustMerge, Orders, rustRoots, rustSimplifyV1, rustSimplify, Once, Walk, Keys, ByZoom, Fair}
+use Rattle.tile_set.specs.Rust.{rustFiled, rustMerge, Orders, rustRoots, rustSimplifyV1, rustSimplify}
+use Rattle.tile_set.specs.Rust.{NoRepeats, LoopOrder, Keys, ByZoom, Fair}
 use Rattle.tile_set.specs.RustMerge.{rust-merged, rust-changed, group-of}
 use Rattle.tile_set.specs.RustSimplify.{rust-simplest}
 use Rattle.tile_set.specs.RustSimplifyV1.{rust-roots, while-ends}
@@ -23,13 +24,13 @@ use Rattle.tile_set.specs.Simplified.{simplified-is}
 use Rattle.tile_set.specs.Uncovered.{uncovered-within}
 
 -- `merge`: one pass, and `changed` says whether any did
-pub the-rusts-merge : (m : ℕ) (S : Tile → Bool) (tiles supertiles : List Tile) → Walk S tiles → Keys m tiles supertiles
+pub the-rusts-merge : (m : ℕ) (S : Tile → Bool) (tiles supertiles : List Tile) → LoopOrder S tiles → Keys m tiles supertiles
     → ((t : Tile) → rustMerge m tiles supertiles .current t ≡ merged m S t)
     × ((rustMerge m tiles supertiles .changed ≡ true) ↔ ((t : Tile) × (joins m S t ≡ true)))
 the-rusts-merge m S tiles supertiles w k = (rust-merged m S tiles supertiles w k, rust-changed m S tiles supertiles w k)
 
 -- `simplify_v1`: under any bound above D on the turns of its second loop, that loop ends by itself
-pub the-rusts-simplify-v1 : {D : ℕ} (m : ℕ) (S : Tile → Bool) → Within D S → (tiles : List Tile) → Walk S tiles → ByZoom tiles
+pub the-rusts-simplify-v1 : {D : ℕ} (m : ℕ) (S : Tile → Bool) → Within D S → (tiles : List Tile) → LoopOrder S tiles → ByZoom tiles
     → (o : Orders) → Fair D m o → (turns : ℕ) → D < turns
     → ((t : Tile) → rustSimplifyV1 turns m o tiles .current t ≡ simplifiedV1 D m S t) × (rustSimplifyV1 turns m o tiles .changed ≡ false)
 unfolding simplifiedV1
@@ -41,12 +42,12 @@ the-rusts-simplify-v1 {D} m S w tiles walk order o fair (suc n) l =
     rw roots (λ t. ap (λ (R : Tile → Bool). R t) (e .0), e .1)
 
 -- `simplify`
-pub the-rusts-simplify : {D : ℕ} (m : ℕ) (S : Tile → Bool) → Within D S → Within 29 S → (tiles : List Tile) → Walk S tiles → ByZoom tiles
-    → (t : Tile) → rustSimplify m tiles t ≡ simplified D m S t
+pub the-rusts-simplify : {D : ℕ} (m : ℕ) (S : Tile → Bool) → Within D S → Within 29 S → (tiles : List Tile)
+    → LoopOrder S tiles → ByZoom tiles → (t : Tile) → rustSimplify m tiles t ≡ simplified D m S t
 the-rusts-simplify m S w small tiles walk order = simplified-is w (rust-simplest m S small tiles walk order)
 
 -- Orders as these theorems ask for exist: that of `inOrder` is one.
-ordered-once : (l : List Tile) → Ordered l → Once l
+ordered-once : (l : List Tile) → Ordered l → NoRepeats l
 ordered-once [] o = tt
 ordered-once (a ∷ l) o = (λ i. before-irrefl (o .0 a i), ordered-once l (o .1))
 
@@ -59,7 +60,7 @@ ordered-by-zoom : (l : List Tile) → Ordered l → ByZoom l
 ordered-by-zoom [] o = tt
 ordered-by-zoom (a ∷ l) o = (λ t i. before-zoom (o .0 t i), ordered-by-zoom l (o .1))
 
-pub in-order-walk : {D : ℕ} (S : Tile → Bool) → Within D S → Walk S (inOrder D S) × ByZoom (inOrder D S)
+pub in-order-walk : {D : ℕ} (S : Tile → Bool) → Within D S → LoopOrder S (inOrder D S) × ByZoom (inOrder D S)
 in-order-walk {D} S w =
     let o = in-order-ordered D S in (
       record { just = λ t. (λ i. in-order-of D S i .1, λ e. in-order-in D S (w t e) e); once = ordered-once (inOrder D S) o },

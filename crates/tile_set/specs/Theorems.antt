@@ -7,7 +7,7 @@ use Prim.Native.Nat.{ℕ, zero, suc, _+_, _<_}
 use native.Mathlib.Omega.{arith}
 use Rattle.tile.specs.OnMap.{tileAt}
 use Rattle.tile.specs.declared.Tile.{Tile}
-use Rattle.tile_set.specs.Holds.{Holds, holds-trans, cut}
+use Rattle.tile_set.specs.Holds.{Holds, holds-trans, in-a-child}
 use Rattle.tile_set.specs.Merged.{Within, Covers, is-false, joined-four, joins-joined, joined-joins, merged-cases, merged-gone}
 use Rattle.tile_set.specs.Merged.{merged-covers, merged-same, passes-within, still}
 use Rattle.tile_set.specs.Set.{parentTile, child, whole, joins, joined, merged, passes, uncovered, simplified, simplifiedV1}
@@ -32,7 +32,7 @@ merge-keeps-ground {D} m S w X Y = (
     part : (t : Tile) → Holds t (tileAt X Y D) → joined m S t ≡ true → Covered D S X Y
     part t h k =
         let v = w (child t 0 0) (joined-four m S t k 0 0 (omega arith) (omega arith)) in
-        let c = cut h (v .zoom) in
+        let c = in-a-child h (v .zoom) in
         (child t (c .0) (c .1), joined-four m S t k (c .0) (c .1) (c .2) (c .3), c .4)
 
 passes-keep-ground : {D : ℕ} (n m : ℕ) (S : Tile → Bool) → Within D S → (X Y : ℕ) → Covered D S X Y ↔ Covered D (passes n m S) X Y

@@ -64,11 +64,11 @@ tileBox x y z = boxAt z x x y y
 abbrev pub fromTileOf : ℕ → ℕ → ℕ → Answer TileZBox
 fromTileOf x y z = answer (tileRefusal x y z) noBox (tileBox x y z)
 
-abbrev pub between : ℕ → ℕ → ℕ → Bool
-between n min max = leb min n && leb n max
+abbrev pub inRange : ℕ → ℕ → ℕ → Bool
+inRange n min max = leb min n && leb n max
 
 unfoldable pub inBox : TileZBox → ℕ → ℕ → ℕ → Bool
-inBox b x y z = eqb z (b .zoom) && (between x (b .minx) (b .maxx) && between y (b .miny) (b .maxy))
+inBox b x y z = eqb z (b .zoom) && (inRange x (b .minx) (b .maxx) && inRange y (b .miny) (b .maxy))
 
 -- a tile of the box, as a proposition
 pub record HoldsTile (b : TileZBox) (t : Tile) : Type 0 where

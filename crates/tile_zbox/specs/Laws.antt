@@ -13,7 +13,7 @@ use Rattle.constants.specs.Limits.{maxZoom}
 use Rattle.errors.specs.Answer.{_when_, _else_}
 use Rattle.tile.specs.OnMap.{side-small}
 use Rattle.tile.specs.declared.Tile.{Tile}
-use Rattle.tile_zbox.specs.Box.{IsBox, wrongRun, wrongEdges, boxRefusal, between, inBox, HoldsTile, zoomedIn, zoomedBy, columnsOf}
+use Rattle.tile_zbox.specs.Box.{IsBox, wrongRun, wrongEdges, boxRefusal, inRange, inBox, HoldsTile, zoomedIn, zoomedBy, columnsOf}
 use Rattle.tile_zbox.specs.Box.{rowsOf, boxLength}
 use Rattle.tile_zbox.specs.declared.TileZBox.{TileZBox}
 
@@ -99,7 +99,7 @@ pub in-holds : (b : TileZBox) (t : Tile) → inBox b (t .x) (t .y) (t .z) ≡ tr
 unfolding inBox
 in-holds b t e =
     let p = and-parts (eqb (t .z) (b .zoom)) _ e in
-    let q = and-parts (between (t .x) (b .minx) (b .maxx)) (between (t .y) (b .miny) (b .maxy)) (p .1) in
+    let q = and-parts (inRange (t .x) (b .minx) (b .maxx)) (inRange (t .y) (b .miny) (b .maxy)) (p .1) in
     let x = and-parts (leb (b .minx) (t .x)) (leb (t .x) (b .maxx)) (q .0) in
     let y = and-parts (leb (b .miny) (t .y)) (leb (t .y) (b .maxy)) (q .1) in
     record {

@@ -55,8 +55,8 @@ rustLength b = u32 (rustDimensions b .across * rustDimensions b .down)
 abbrev pub rustFlipRow : ℕ → ℕ → ℕ
 rustFlipRow y z = less (less (u32 (2 ^ z)) 1) y
 
-abbrev pub rustFlipy : TileZBox → TileZBox
-rustFlipy b = boxAt (b .zoom) (b .minx) (b .maxx) (rustFlipRow (b .maxy) (b .zoom)) (rustFlipRow (b .miny) (b .zoom))
+abbrev pub rustBoxFlipy : TileZBox → TileZBox
+rustBoxFlipy b = boxAt (b .zoom) (b .minx) (b .maxx) (rustFlipRow (b .maxy) (b .zoom)) (rustFlipRow (b .miny) (b .zoom))
 
 -- `zoom_in`
 abbrev pub rustZoomIn : TileZBox → TileZBox
@@ -82,7 +82,7 @@ module _ (b : TileZBox) (c : Compared b) where
   unfolding boxLength
   rust-length h = ap (λ (e : Extent). u32 (e .across * e .down)) rust-dimensions ∙ mod-eq-of-lt h
 
-  pub rust-flipy : rustFlipy b ≡ flipped b
+  pub rust-flipy : rustBoxFlipy b ≡ flipped b
   unfolding flipped
   rust-flipy =
       let s = pow-mono {j = 29} (c .zoom) in

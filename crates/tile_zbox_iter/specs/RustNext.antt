@@ -39,13 +39,13 @@ stateAt x y = record { column = x; row = y }
 abbrev pub rustTurned : TileZBox → RustState → RustState
 rustTurned b s = cond (ltb (b .maxx) (s .column)) (stateAt (b .minx) (u32 (s .row + 1))) s
 
-abbrev pub rustStep : TileZBox → RustState → RustNext
-rustStep b s =
+abbrev pub rustTaken : TileZBox → RustState → RustNext
+rustTaken b s =
     cond (ltb (b .maxy) (s .row)) (record { count = 0; tile = tileAt 0 0 0; state = s })
     (record { count = 1; tile = tileAt (s .column) (s .row) (b .zoom); state = stateAt (u32 (s .column + 1)) (s .row) })
 
 abbrev pub rustNext : TileZBox → RustState → RustNext
-rustNext b s = rustStep b (rustTurned b s)
+rustNext b s = rustTaken b (rustTurned b s)
 
 -- the state after k tiles
 pub record After (b : TileZBox) (k : ℕ) (s : RustState) : Type 0 where
@@ -118,7 +118,7 @@ row-past b s i a l = pick (decLt (b .maxy) (s .row))
         absurd (omega (arith, digits-lt r w, a .place, mul-comm (rowsOf b) (columnsOf b)))
 
 step-inside : (b : TileZBox) (k : ℕ) (s : RustState) → Compared b → After b k s → s .column ≤ b .maxx → s .row ≤ b .maxy
-    → (rustStep b s .count ≡ 1) × (rustStep b s .tile ≡ kthTile b k) × After b (k + 1) (rustStep b s .state)
+    → (rustTaken b s .count ≡ 1) × (rustTaken b s .tile ≡ kthTile b k) × After b (k + 1) (rustTaken b s .state)
 step-inside b k s i a l r =
     let h : s .column + 1 < 2 ^ 32 = omega (arith, edges-small i) in
     let x : b .minx + (s .column - b .minx) ≡ s .column = omega (arith, a .west) in
@@ -129,7 +129,7 @@ step-inside b k s i a l r =
     rw (le-ltb _ _ r, mod-eq-of-lt h)
     (refl, t, record { west = omega (arith, a .west); east = omega arith; north = a .north; place = rw p (omega (arith, a .place)) })
 
-step-past : (b : TileZBox) (s : RustState) → b .maxy < s .row → (rustStep b s .count ≡ 0) × (rustStep b s .state ≡ s)
+step-past : (b : TileZBox) (s : RustState) → b .maxy < s .row → (rustTaken b s .count ≡ 0) × (rustTaken b s .state ≡ s)
 step-past b s h = rw (lt-ltb _ _ h) (refl, refl)
 
 -- after k tiles, fewer than the box has, the Rust gives tile number k and is after k + 1

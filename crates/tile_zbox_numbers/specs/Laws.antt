@@ -57,9 +57,9 @@ pub any-later : (p : TileZBox → Bool) (b : TileZBox) (bs : List TileZBox) → 
 unfolding anyOf
 any-later p b bs e = rw e
 
-pub any-none : (p : TileZBox → Bool) → anyOf p [] ≡ false
+pub any-of-empty : (p : TileZBox → Bool) → anyOf p [] ≡ false
 unfolding anyOf
-any-none p = refl
+any-of-empty p = refl
 
 pub none-of : (p : TileZBox → Bool) (b : TileZBox) (bs : List TileZBox) → anyOf p (b ∷ bs) ≡ false → (p b ≡ false) × (anyOf p bs ≡ false)
 unfolding anyOf
@@ -85,14 +85,14 @@ fine-more {b} {bs} h f =
     }
 
 -- the zoom of the next box, as the code reads it
-pub first-zoom : (l : List ℕ) (at : ℕ) → getD (drop at l) 0 0 ≡ getD l at 0
-first-zoom l at = getD-drop at l 0 0 ∙ rw (add-zero at)
+pub next-box-zoom : (l : List ℕ) (at : ℕ) → getD (drop at l) 0 0 ≡ getD l at 0
+next-box-zoom l at = getD-drop at l 0 0 ∙ rw (add-zero at)
 
 pub zoom-at : (n at : ℕ) (l : List ℕ) → 0 < n → anyOf deep (boxesFrom n (drop at l)) ≡ false → getD l at 0 ≤ maxZoom
 zoom-at n at l h e =
     let p = none-of deep (boxFrom (drop at l)) (boxesFrom (n - 1) (drop (at + 5) l)) (rw (boxes-step n at l h) at e) in
     let z : getD (drop at l) 0 0 ≤ maxZoom = ltb-false maxZoom (getD (drop at l) 0 0) (p .0) in
-    rw (first-zoom l at) at z
+    rw (next-box-zoom l at) at z
 
 -- boxes that are not refused are those of the map, in a number that is taken
 pub over-accepted : {bs : List TileZBox} {n : ℕ} → Fine bs → n ≤ maxBoxes → refusalOver bs n ≡ 0

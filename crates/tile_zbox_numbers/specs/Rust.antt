@@ -6,7 +6,7 @@ use native.Mathlib.Nat.{mod-eq-of-lt}
 use native.Mathlib.Omega.{arith}
 use lib.ListN.{length}
 use Rattle.tile_zbox.specs.Box.{flipped, boxLength}
-use Rattle.tile_zbox.specs.Rust.{Compared, rustLength, rustFlipy, rust-length, rust-flipy}
+use Rattle.tile_zbox.specs.Rust.{Compared, rustLength, rustBoxFlipy, rust-length, rust-flipy}
 use Rattle.tile_zbox.specs.declared.TileZBox.{TileZBox}
 use Rattle.tile_zbox_numbers.specs.Boxes.{sumLengths}
 
@@ -32,6 +32,6 @@ pub rust-boxes-length : (bs : List TileZBox) → ((b : TileZBox) → List·Mem�
 rust-boxes-length bs h l = summed bs 0 h (omega arith) ∙ omega arith
 
 -- `TileZBoxes::flipy`
-pub rust-boxes-flipy : (bs : List TileZBox) → ((b : TileZBox) → List·Memᴰ b bs → Compared b) → map rustFlipy bs ≡ map flipped bs
+pub rust-boxes-flipy : (bs : List TileZBox) → ((b : TileZBox) → List·Memᴰ b bs → Compared b) → map rustBoxFlipy bs ≡ map flipped bs
 rust-boxes-flipy [] h = refl
 rust-boxes-flipy (b ∷ bs) h = rw (rust-flipy b (h b (List·Memᴰ·head refl)), rust-boxes-flipy bs (λ c m. h c (List·Memᴰ·tail m)))

@@ -12,7 +12,7 @@ use Rattle.tile_zbox.specs.Box.{wrongEdges}
 use Rattle.tile_zbox.specs.declared.TileZBox.{TileZBox}
 use Rattle.tile_zbox_numbers.specs.Boxes.{deep, refusalOver, sumLengths, boxesLengthOf, boxesFrom, boxesOf, numbersLengthOf}
 use Rattle.tile_zbox_numbers.specs.Boxes.{numbersOf}
-use Rattle.tile_zbox_numbers.specs.Laws.{any-none, Fine, over-accepted, whole-refusal, numbers-length}
+use Rattle.tile_zbox_numbers.specs.Laws.{any-of-empty, Fine, over-accepted, whole-refusal, numbers-length}
 
 -- five numbers for each box lead back to the boxes
 pub the-numbers-lead-back : (bs : List TileZBox) → boxesFrom (length bs) (numbersOf bs) ≡ bs
@@ -58,4 +58,4 @@ unfolding sumLengths
 no-box-is-0 = boxes-length-is-the-sum [] none (omega arith)
   where
     none : Fine []
-    none = record { shallow = any-none deep; edges = any-none wrongEdges }
+    none = record { shallow = any-of-empty deep; edges = any-of-empty wrongEdges }

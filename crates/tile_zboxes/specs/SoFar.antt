@@ -17,25 +17,25 @@ use Rattle.errors.specs.Turn.{firstOf, turnOf}
 use Rattle.tile_zbox.specs.Box.{noBox, wrongEdges, boxRefusal, boxLength, lengthOf}
 use Rattle.tile_zbox_numbers.specs.Boxes.{deep, refusalOver, sumLengths, boxesLengthOf}
 use Rattle.tile_zbox.specs.Laws.{accepted-box, length-small}
-use Rattle.tile_zbox_numbers.specs.Laws.{any-none, accepted-over, fine-more, fine-fits, sum-step, sum-none}
+use Rattle.tile_zbox_numbers.specs.Laws.{any-of-empty, accepted-over, fine-more, fine-fits, sum-step, sum-none}
 use Rattle.tile_zbox.specs.declared.TileZBox.{TileZBox}
 
 infixl 20 _plus_
 -- of n boxes in all, those read so far
-abbrev pub soFar : ℕ → List TileZBox → Answer ℕ
-soFar n bs = answer (refusalOver bs n) 0 (sumLengths bs)
+abbrev pub boxesSoFar : ℕ → List TileZBox → Answer ℕ
+boxesSoFar n bs = answer (refusalOver bs n) 0 (sumLengths bs)
 
 -- two answers as one: the refusal that is tested first, or else the sum
 unfoldable pub _plus_ : Answer ℕ → Answer ℕ → Answer ℕ
 a plus b = answer (firstOf (a .number) (b .number)) 0 (a .value + b .value)
 
-pub none-of-many : (n : ℕ) → maxBoxes < n → soFar n [] ≡ record { number = 6; value = 0 }
+pub none-of-many : (n : ℕ) → maxBoxes < n → boxesSoFar n [] ≡ record { number = 6; value = 0 }
 unfolding refusalOver
-none-of-many n h = rw (any-none deep, lt-ltb _ _ h)
+none-of-many n h = rw (any-of-empty deep, lt-ltb _ _ h)
 
-pub none-of-few : (n : ℕ) → n ≤ maxBoxes → soFar n [] ≡ record { number = 0; value = 0 }
+pub none-of-few : (n : ℕ) → n ≤ maxBoxes → boxesSoFar n [] ≡ record { number = 0; value = 0 }
 unfolding refusalOver
-none-of-few n h = rw (any-none deep, le-ltb _ _ h, any-none wrongEdges, sum-none)
+none-of-few n h = rw (any-of-empty deep, le-ltb _ _ h, any-of-empty wrongEdges, sum-none)
 
 -- one box more: the first refusal over the boxes and the count, and that of the box
 first-more : (deeper many wrong d w : Bool) (s l : ℕ)
@@ -68,19 +68,19 @@ unfolding sumLengths
 sum-last [] b = omega arith
 sum-last (a ∷ bs) b = rw (sum-last bs b) (sym (add-assoc (boxLength a) (sumLengths bs) (boxLength b)))
 
-one-more : (n : ℕ) (bs : List TileZBox) (b : TileZBox) → soFar n (bs ++ (b ∷ [])) ≡ soFar n bs plus lengthOf b
+one-more : (n : ℕ) (bs : List TileZBox) (b : TileZBox) → boxesSoFar n (bs ++ (b ∷ [])) ≡ boxesSoFar n bs plus lengthOf b
 unfolding refusalOver boxRefusal
 one-more n bs b = rw (any-last deep bs b, any-last wrongEdges bs b, sum-last bs b)
     (first-more (anyOf deep bs) (ltb maxBoxes n) (anyOf wrongEdges bs) (deep b) (wrongEdges b) (sumLengths bs) (boxLength b))
 
 -- the box at place i of the list, where the first i are read
 pub with-next : (n i : ℕ) (bs : List TileZBox) → i < length bs
-    → soFar n (take i bs) plus lengthOf (getD bs i noBox) ≡ soFar n (take (i + 1) bs)
+    → boxesSoFar n (take i bs) plus lengthOf (getD bs i noBox) ≡ boxesSoFar n (take (i + 1) bs)
 with-next n i bs h = sym (one-more n (take i bs) (getD bs i noBox))
-    ∙ ap (soFar n) (sym (ap (λ (k : ℕ). take k bs) (add-one i) ∙ take-suc bs i noBox h))
+    ∙ ap (boxesSoFar n) (sym (ap (λ (k : ℕ). take k bs) (add-one i) ∙ take-suc bs i noBox h))
 
 -- where a box is still to come, its length can be added
-room-for-one : (n : ℕ) (bs : List TileZBox) (b : TileZBox) → length bs < n → soFar n bs .value + lengthOf b .value < 2 ^ 64
+room-for-one : (n : ℕ) (bs : List TileZBox) (b : TileZBox) → length bs < n → boxesSoFar n bs .value + lengthOf b .value < 2 ^ 64
 room-for-one n bs b h = pick (refusalOver bs n) refl (boxRefusal b) refl
   where
     pick : (r : ℕ) → refusalOver bs n ≡ r → (t : ℕ) → boxRefusal b ≡ t
@@ -95,8 +95,8 @@ room-for-one n bs b h = pick (refusalOver bs n) refl (boxRefusal b) refl
         omega arith
 
 pub room-for-next : (i : ℕ) (bs : List TileZBox) → i < length bs
-    → soFar (length bs) (take i bs) .value + lengthOf (getD bs i noBox) .value < 2 ^ 64
+    → boxesSoFar (length bs) (take i bs) .value + lengthOf (getD bs i noBox) .value < 2 ^ 64
 room-for-next i bs h = room-for-one (length bs) (take i bs) (getD bs i noBox) (omega (arith, length-take-le i bs (omega arith)))
 
-pub all-read : (i : ℕ) (bs : List TileZBox) → length bs ≤ i → soFar (length bs) (take i bs) ≡ boxesLengthOf bs
-all-read i bs h = ap (soFar (length bs)) (take-all i bs h)
+pub all-read : (i : ℕ) (bs : List TileZBox) → length bs ≤ i → boxesSoFar (length bs) (take i bs) ≡ boxesLengthOf bs
+all-read i bs h = ap (boxesSoFar (length bs)) (take-all i bs h)

@@ -11,7 +11,7 @@ ghost use Rattle.errors.specs.Answer.{answer};
 ghost use Rattle.errors.specs.Cases.{u64Case, refusedAs};
 ghost use Rattle.tile_zbox.specs.Box.{lengthOf};
 ghost use Rattle.tile_zbox_numbers.specs.Boxes.{boxesLengthOf};
-ghost use Rattle.tile_zboxes.specs.SoFar.{soFar, _plus_};
+ghost use Rattle.tile_zboxes.specs.SoFar.{boxesSoFar, _plus_};
 
 // The first refusal over all boxes and their count, or else the sum. The borrow checker covers no function over a slice of structs:
 // this one is proved by hand, and so it only reads the boxes one by one. What is done with them is in the functions below.
@@ -30,7 +30,7 @@ pub fn boxes_length(boxes: &[TileZBox]) -> U64Answer
 
 // The answer before the first of n boxes.
 fn start(n: usize) -> U64Answer
-    ensures { λ r. ⌜ u64Case r ≡ soFar n [] ⌝ }
+    ensures { λ r. ⌜ u64Case r ≡ boxesSoFar n [] ⌝ }
 {
     if n > MAX_BOXES {
         return U64Answer::Refused(Refusal::TooMany);

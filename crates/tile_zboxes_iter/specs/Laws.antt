@@ -13,7 +13,7 @@ use Rattle.tile_zbox_iter.specs.Cursor.{kthTile}
 use Rattle.tile_zbox_iter.specs.Theorems.{length-counts-the-tiles}
 use Rattle.tile_zbox_iter.specs.Tiles.{boxTiles, tile-of-box-at}
 use Rattle.tile_zbox_numbers.specs.Boxes.{sumLengths, boxFrom, boxesFrom, boxesOf, numbersRefusal}
-use Rattle.tile_zbox_numbers.specs.Laws.{boxes-step, boxes-end, Fine, fine-first, first-zoom, all-boxes-accepted, accepted-all-boxes}
+use Rattle.tile_zbox_numbers.specs.Laws.{boxes-step, boxes-end, Fine, fine-first, next-box-zoom, all-boxes-accepted, accepted-all-boxes}
 use Rattle.tile_zbox_numbers.specs.Laws.{sum-step, sum-none}
 use Rattle.tile_zboxes_iter.specs.Cursor.{tilesOfAll}
 
@@ -36,7 +36,7 @@ behind-the-first b bs k =
     ∙ getD-append-add (boxTiles b) (tilesOfAll bs) k noTile
 
 -- numbers that are boxes, and a place among the tiles of these
-pub record Ahead (l : List ℕ) (k : ℕ) : Type 0 where
+pub record AmongTiles (l : List ℕ) (k : ℕ) : Type 0 where
   pub boxes : numbersRefusal l ≡ 0
   pub place : k < length (tilesOfAll (boxesOf l))
 
@@ -64,7 +64,7 @@ some-box l k h = pick (length l / 5) refl
         absurd (omega arith)
     pick (suc n) e = omega arith
 
-pub first-box : {l : List ℕ} {k : ℕ} → Ahead l k → FirstBox l
+pub first-box : {l : List ℕ} {k : ℕ} → AmongTiles l k → FirstBox l
 first-box {l} {k} a =
     let w = accepted-all-boxes l (a .boxes) in
     let n = some-box l k (a .place) in
@@ -81,16 +81,16 @@ first-box {l} {k} a =
     }
 
 -- the five numbers of the box at a place can be read, and its zoom is one of the map's
-pub box-readable : (l : List ℕ) (at : ℕ) {k : ℕ} → Ahead (drop at l) k → (at + 5 ≤ length l) × (getD l at 0 ≤ maxZoom)
-box-readable l at a = let f = first-box a in (omega (arith, length-drop at l, f .five), rw (first-zoom l at) at (f .box .zoom))
+pub box-readable : (l : List ℕ) (at : ℕ) {k : ℕ} → AmongTiles (drop at l) k → (at + 5 ≤ length l) × (getD l at 0 ≤ maxZoom)
+box-readable l at a = let f = first-box a in (omega (arith, length-drop at l, f .five), rw (next-box-zoom l at) at (f .box .zoom))
 
 -- the tile is the first box's, or stands so many places nearer among the tiles of the others
-pub tile-here : {l : List ℕ} {k : ℕ} → Ahead l k → k < boxLength (boxFrom l)
+pub tile-here : {l : List ℕ} {k : ℕ} → AmongTiles l k → k < boxLength (boxFrom l)
     → getD (tilesOfAll (boxesOf l)) k noTile ≡ kthTile (boxFrom l) k
 tile-here {l} {k} a h =
     ap (λ (bs : List TileZBox). getD (tilesOfAll bs) k noTile) (first-box a .split) ∙ in-the-first (boxFrom l) (boxesOf (drop 5 l)) k h
 
-pub tile-later : {l : List ℕ} {k : ℕ} → Ahead l k → boxLength (boxFrom l) ≤ k
+pub tile-later : {l : List ℕ} {k : ℕ} → AmongTiles l k → boxLength (boxFrom l) ≤ k
     → getD (tilesOfAll (boxesOf l)) k noTile ≡ getD (tilesOfAll (boxesOf (drop 5 l))) (k - boxLength (boxFrom l)) noTile
 tile-later {l} {k} a h =
     let n = boxLength (boxFrom l) in
@@ -99,7 +99,7 @@ tile-later {l} {k} a h =
     ∙ (ap (λ (m : ℕ). getD (tilesOfAll (boxFrom l ∷ boxesOf (drop 5 l))) m noTile) (sym e)
     ∙ behind-the-first (boxFrom l) (boxesOf (drop 5 l)) (k - n))
 
-pub ahead-later : {l : List ℕ} {k : ℕ} → Ahead l k → boxLength (boxFrom l) ≤ k → Ahead (drop 5 l) (k - boxLength (boxFrom l))
+pub ahead-later : {l : List ℕ} {k : ℕ} → AmongTiles l k → boxLength (boxFrom l) ≤ k → AmongTiles (drop 5 l) (k - boxLength (boxFrom l))
 ahead-later {l} {k} a h =
     let f = first-box a in
     let p = as-many-as-the-sum (boxesOf l) in
@@ -109,8 +109,8 @@ ahead-later {l} {k} a h =
     record { boxes = f .rest; place = omega (arith, a .place) }
 
 -- past the first box of the numbers from a place on
-pub ahead-on : (l : List ℕ) (at : ℕ) {k : ℕ} → Ahead (drop at l) k → boxLength (boxFrom (drop at l)) ≤ k
-    → Ahead (drop (at + 5) l) (k - boxLength (boxFrom (drop at l)))
+pub ahead-on : (l : List ℕ) (at : ℕ) {k : ℕ} → AmongTiles (drop at l) k → boxLength (boxFrom (drop at l)) ≤ k
+    → AmongTiles (drop (at + 5) l) (k - boxLength (boxFrom (drop at l)))
     × (getD (tilesOfAll (boxesOf (drop at l))) k noTile
     ≡ getD (tilesOfAll (boxesOf (drop (at + 5) l))) (k - boxLength (boxFrom (drop at l))) noTile)
 ahead-on l at a h = rw (← drop-drop 5 at l) (ahead-later a h, tile-later a h)

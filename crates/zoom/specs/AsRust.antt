@@ -8,7 +8,7 @@ use native.Mathlib.Decide.{decLt, ℕ-discrete}
 use lib.Dec.{eqb, ltb, leb}
 use borrow.Author.Tests.{lt-ltb, le-ltb, lt-leb, ltb-false, eq-eqb, ne-eqb}
 use Rattle.bits.specs.Powers.{pow-within}
-use Rattle.zoom_bits.specs.Bits.{hasBit, those, setOf, between, fromTo, lastZoom, turnBit, downFrom, listed, anyDeeper, setOfZooms}
+use Rattle.zoom_bits.specs.Bits.{hasBit, those, setOf, between, fromTo, lastZoom, turnBit, downFrom, zoomsIn, anyDeeper, setOfZooms}
 use Rattle.zoom_bits.specs.Laws.{set-below, set-with, set-same, set-none, those-same, bit-of-set, bit-past, bit-half}
 use Rattle.zoom_bits.specs.Listed.{or-none}
 use Rattle.zoom_bits.specs.Masks.{masked, masked-is}
@@ -68,10 +68,10 @@ zooms-as-rust calls zset = pick (hasBit zset turnBit) refl
 
 -- ---- the set of a list
 
-pub none-deeper : (l : List ℕ) → ((z : ℕ) → List·Memᴰ z l → z ≤ 30) → anyDeeper l ≡ false
+pub none-too-deep : (l : List ℕ) → ((z : ℕ) → List·Memᴰ z l → z ≤ 30) → anyDeeper l ≡ false
 unfolding anyDeeper
-none-deeper [] h = refl
-none-deeper (z ∷ l) h = rw (le-ltb lastZoom z (h z (List·Memᴰ·head refl)), none-deeper l (λ a m. h a (List·Memᴰ·tail m)))
+none-too-deep [] h = refl
+none-too-deep (z ∷ l) h = rw (le-ltb lastZoom z (h z (List·Memᴰ·head refl)), none-too-deep l (λ a m. h a (List·Memᴰ·tail m)))
 
 -- whether a zoom of the list has bit i
 hit : (ℕ → ℕ) → List ℕ → ℕ → Bool
@@ -96,15 +96,15 @@ fold-from-none : (place : ℕ → ℕ) (n : ℕ) → n ≤ 32 → ((z : ℕ) →
 fold-from-none place n w room l e =
     ap (λ (acc : ℕ). fold place acc l) (sym (set-none (λ i. false) n (λ i k. refl))) ∙ fold-hits place n w room l e (λ i. false)
 
-hit-listed : (l : List ℕ) (i : ℕ) → hit (λ z. z) l i ≡ listed l i
-unfolding hit listed
+hit-listed : (l : List ℕ) (i : ℕ) → hit (λ z. z) l i ≡ zoomsIn l i
+unfolding hit zoomsIn
 hit-listed [] i = refl
 hit-listed (z ∷ l) i = rw (hit-listed l i)
 
 pub set-as-rust : (zvec : List ℕ) → anyDeeper zvec ≡ false → zvec2zset zvec ≡ setOfZooms zvec
 set-as-rust zvec e =
     fold-from-none (λ z. z) (suc lastZoom) (omega arith) (λ z h. omega arith) zvec e
-    ∙ set-same (hit (λ z. z) zvec) (listed zvec) (suc lastZoom) (λ i k. hit-listed zvec i)
+    ∙ set-same (hit (λ z. z) zvec) (zoomsIn zvec) (suc lastZoom) (λ i k. hit-listed zvec i)
 
 -- i is 31 - z just if 31 - i is z
 pub mirror : (i z : ℕ) → i ≤ turnBit → z ≤ turnBit → eqb i (31 - z) ≡ eqb (31 - i) z
@@ -114,8 +114,8 @@ mirror i z h k = pick (ℕ-discrete i (31 - z))
     pick (yes e) = eq-eqb i (31 - z) e ∙ sym (eq-eqb (31 - i) z (omega arith))
     pick (no e) = ne-eqb i (31 - z) e ∙ sym (ne-eqb (31 - i) z (λ d. e (omega arith)))
 
-hit-mirrored : (l : List ℕ) (i : ℕ) → anyDeeper l ≡ false → i ≤ turnBit → hit (λ z. 31 - z) l i ≡ listed l (turnBit - i)
-unfolding hit listed anyDeeper
+hit-mirrored : (l : List ℕ) (i : ℕ) → anyDeeper l ≡ false → i ≤ turnBit → hit (λ z. 31 - z) l i ≡ zoomsIn l (turnBit - i)
+unfolding hit zoomsIn anyDeeper
 hit-mirrored [] i e h = refl
 hit-mirrored (z ∷ l) i e h =
     let d = or-none (ltb lastZoom z) (anyDeeper l) e in
@@ -124,7 +124,7 @@ hit-mirrored (z ∷ l) i e h =
 pub set-rev-as-rust : (zvec : List ℕ) → anyDeeper zvec ≡ false → zvec2zsetRev zvec ≡ setOfZoomsRev zvec
 set-rev-as-rust zvec e =
     fold-from-none (λ z. 31 - z) (suc turnBit) (omega arith) (λ z h. omega arith) zvec e
-    ∙ set-same (hit (λ z. 31 - z) zvec) (λ i. listed zvec (turnBit - i)) (suc turnBit) (λ i k. hit-mirrored zvec i e (omega arith))
+    ∙ set-same (hit (λ z. 31 - z) zvec) (λ i. zoomsIn zvec (turnBit - i)) (suc turnBit) (λ i k. hit-mirrored zvec i e (omega arith))
 
 -- ---- the set of a range
 
@@ -147,7 +147,7 @@ pub range-as-rust : (low high : ℕ) → high ≤ lastZoom → zvec2zset (fromTo
 unfolding fromTo
 range-as-rust low high h =
     set-as-rust (fromTo low high) (those-shallow (between low high) (suc high) (omega arith))
-    ∙ set-same (listed (fromTo low high)) (between low high) (suc lastZoom)
+    ∙ set-same (zoomsIn (fromTo low high)) (between low high) (suc lastZoom)
     (λ i l. listed-those (between low high) (suc high) i ∙ pick i (decLt high i))
   where
     pick : (i : ℕ) → Dec (high < i) → (ltb i (suc high) && between low high i) ≡ between low high i

@@ -8,20 +8,20 @@ use native.Mathlib.Omega.{arith}
 use native.Mathlib.Decide.{decLt}
 use lib.Dec.{eqb, ltb}
 use borrow.Author.Tests.{lt-ltb, le-ltb, eq-eqb, ne-eqb}
-use Rattle.zoom_bits.specs.Bits.{hasBit, those, lastZoom, turnBit, downFrom, listed, anyDeeper, setOfZooms}
+use Rattle.zoom_bits.specs.Bits.{hasBit, those, lastZoom, turnBit, downFrom, zoomsIn, anyDeeper, setOfZooms}
 use Rattle.zoom_bits.specs.Laws.{set-below, set-of-bits, set-same, bit-of-set, bit-past, those-of-set}
 use Rattle.zoom_bits.specs.Listed.{listed-append}
 use Rattle.zoom.specs.Lists.{zooms-straight, listed-shallow}
 use Rattle.zoom.specs.Zooms.{zoomsOf, zoomsOfRev, setOfZoomsRev}
 
-listed-one : (b : Bool) (n z : ℕ) → listed (cond b (n ∷ []) []) z ≡ b && eqb z n
-unfolding listed
+listed-one : (b : Bool) (n z : ℕ) → zoomsIn (cond b (n ∷ []) []) z ≡ b && eqb z n
+unfolding zoomsIn
 listed-one true n z = or-false (eqb z n)
 listed-one false n z = refl
 
 -- just the numbers below n that pass
-pub listed-those : (has : ℕ → Bool) (n z : ℕ) → listed (those has n) z ≡ ltb z n && has z
-unfolding those listed
+pub listed-those : (has : ℕ → Bool) (n z : ℕ) → zoomsIn (those has n) z ≡ ltb z n && has z
+unfolding those zoomsIn
 listed-those has zero z = rw (le-ltb z 0 (omega arith))
 listed-those has (suc n) z =
     listed-append (those has n) (cond (has n) (n ∷ []) []) z
@@ -42,24 +42,24 @@ straight-zooms zset h = zooms-straight zset (bit-past zset turnBit turnBit h (om
 pub set-back : (zset : ℕ) → zset < 2 ^ turnBit → setOfZooms (zoomsOf zset) ≡ zset
 set-back zset h =
     rw (straight-zooms zset h)
-    (set-same (listed (those (hasBit zset) (suc lastZoom))) (hasBit zset) (suc lastZoom)
+    (set-same (zoomsIn (those (hasBit zset) (suc lastZoom))) (hasBit zset) (suc lastZoom)
     (λ i l. listed-those (hasBit zset) (suc lastZoom) i ∙ rw (lt-ltb i (suc lastZoom) l))
     ∙ (set-of-bits zset (suc lastZoom) ∙ mod-eq-of-lt h))
 
-pub list-back : (zvec : List ℕ) → anyDeeper zvec ≡ false → (z : ℕ) → listed (zoomsOf (setOfZooms zvec)) z ≡ listed zvec z
+pub list-back : (zvec : List ℕ) → anyDeeper zvec ≡ false → (z : ℕ) → zoomsIn (zoomsOf (setOfZooms zvec)) z ≡ zoomsIn zvec z
 list-back zvec e z =
-    rw (straight-zooms (setOfZooms zvec) (set-below (listed zvec) (suc lastZoom)), those-of-set (listed zvec) (suc lastZoom))
-    (listed-those (listed zvec) (suc lastZoom) z ∙ pick (decLt z (suc lastZoom)))
+    rw (straight-zooms (setOfZooms zvec) (set-below (zoomsIn zvec) (suc lastZoom)), those-of-set (zoomsIn zvec) (suc lastZoom))
+    (listed-those (zoomsIn zvec) (suc lastZoom) z ∙ pick (decLt z (suc lastZoom)))
   where
-    pick : Dec (z < suc lastZoom) → (ltb z (suc lastZoom) && listed zvec z) ≡ listed zvec z
+    pick : Dec (z < suc lastZoom) → (ltb z (suc lastZoom) && zoomsIn zvec z) ≡ zoomsIn zvec z
     pick (yes l) = rw (lt-ltb z (suc lastZoom) l)
     pick (no l) = rw (le-ltb z (suc lastZoom) (omega arith)) (sym (listed-shallow zvec z e (omega arith)))
 
 -- the two turned readings count from different bits: a zoom comes back one lower
 pub rev-lower : (zvec : List ℕ) → anyDeeper zvec ≡ false → (z : ℕ) → z ≤ lastZoom
-    → listed (zoomsOfRev (setOfZoomsRev zvec)) z ≡ listed zvec (suc z)
+    → zoomsIn (zoomsOfRev (setOfZoomsRev zvec)) z ≡ zoomsIn zvec (suc z)
 rev-lower zvec e z h =
     let back : turnBit - (lastZoom - z) ≡ suc z = omega arith in
     listed-those (downFrom lastZoom (setOfZoomsRev zvec)) (suc lastZoom) z
     ∙ (rw (lt-ltb z (suc lastZoom) (omega arith))
-    (bit-of-set (λ i. listed zvec (turnBit - i)) (suc turnBit) (lastZoom - z) (omega arith) ∙ ap (listed zvec) back))
+    (bit-of-set (λ i. zoomsIn zvec (turnBit - i)) (suc turnBit) (lastZoom - z) (omega arith) ∙ ap (zoomsIn zvec) back))

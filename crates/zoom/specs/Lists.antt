@@ -9,10 +9,10 @@ use lib.ListN.{length}
 use borrow.Author.Tests.{ltb-false, ne-eqb}
 use Rattle.constants.specs.Limits.{maxEntries}
 use Rattle.errors.specs.Answer.{_when_, _else_}
-use Rattle.zoom_bits.specs.Bits.{hasBit, those, setOf, lastZoom, turnBit, downFrom, setOfZooms, listed, anyDeeper}
+use Rattle.zoom_bits.specs.Bits.{hasBit, those, setOf, lastZoom, turnBit, downFrom, setOfZooms, zoomsIn, anyDeeper}
 use Rattle.zoom_bits.specs.Laws.{those-same, set-same, bit-of-whole}
 use Rattle.zoom_bits.specs.Listed.{or-none}
-use Rattle.zoom.specs.Zooms.{inSet, zoomsOf, zoomsOfRev, listRefusal, setOfZoomsRev}
+use Rattle.zoom.specs.Zooms.{inSet, zoomsOf, zoomsOfRev, zoomsRefusal, setOfZoomsRev}
 
 pub zooms-turned : (zset : ℕ) → hasBit zset turnBit ≡ true → zoomsOf zset ≡ zoomsOfRev zset
 zooms-turned zset e = those-same (inSet zset) (downFrom lastZoom zset) (suc lastZoom) (λ z l. rw e)
@@ -20,15 +20,15 @@ zooms-turned zset e = those-same (inSet zset) (downFrom lastZoom zset) (suc last
 pub zooms-straight : (zset : ℕ) → hasBit zset turnBit ≡ false → zoomsOf zset ≡ those (hasBit zset) (suc lastZoom)
 zooms-straight zset e = those-same (inSet zset) (hasBit zset) (suc lastZoom) (λ z l. rw e)
 
-pub accepted-shallow : (l : List ℕ) → listRefusal l ≡ 0 → anyDeeper l ≡ false
+pub accepted-shallow : (l : List ℕ) → zoomsRefusal l ≡ 0 → anyDeeper l ≡ false
 accepted-shallow l e = pick (anyDeeper l) e
   where
     pick : (b : Bool) → 1 when b else 6 when ltb maxEntries (length l) ≡ 0 → b ≡ false
     pick true e = absurd (omega arith)
     pick false e = refl
 
-pub listed-shallow : (l : List ℕ) (z : ℕ) → anyDeeper l ≡ false → lastZoom < z → listed l z ≡ false
-unfolding listed anyDeeper
+pub listed-shallow : (l : List ℕ) (z : ℕ) → anyDeeper l ≡ false → lastZoom < z → zoomsIn l z ≡ false
+unfolding zoomsIn anyDeeper
 listed-shallow [] z e h = refl
 listed-shallow (a ∷ l) z e h =
     let n = or-none (ltb lastZoom a) (anyDeeper l) e in
@@ -36,5 +36,5 @@ listed-shallow (a ∷ l) z e h =
 
 pub set-turned : (l : List ℕ) → anyDeeper l ≡ false → setOf (downFrom turnBit (setOfZooms l)) (suc turnBit) ≡ setOfZoomsRev l
 set-turned l e =
-    set-same (downFrom turnBit (setOfZooms l)) (λ i. listed l (turnBit - i)) (suc turnBit)
-    (λ i k. bit-of-whole (listed l) (suc lastZoom) (λ z h. listed-shallow l z e h) (turnBit - i))
+    set-same (downFrom turnBit (setOfZooms l)) (λ i. zoomsIn l (turnBit - i)) (suc turnBit)
+    (λ i k. bit-of-whole (zoomsIn l) (suc lastZoom) (λ z h. listed-shallow l z e h) (turnBit - i))

@@ -10,11 +10,11 @@ use lib.ListN.{length, getD}
 use lib.Bits.{bitAnd}
 use borrow.Author.Tests.{le-ltb}
 use Rattle.bits.specs.Powers.{pow-within}
-use Rattle.zoom_bits.specs.Bits.{hasBit, those, setOf, between, fromTo, lastZoom, turnBit, listed, anyDeeper, setOfZooms}
+use Rattle.zoom_bits.specs.Bits.{hasBit, those, setOf, between, fromTo, lastZoom, turnBit, zoomsIn, anyDeeper, setOfZooms}
 use Rattle.zoom_bits.specs.Laws.{set-of-one, set-of-span, set-same, bit-and}
 use Rattle.zoom_bits.specs.Masks.{mask}
 use Rattle.zoom_bits.specs.Rising.{those-rising}
-use Rattle.zoom.specs.AsRust.{mirror, zooms-as-rust, turned-zooms, none-deeper, set-as-rust, set-rev-as-rust, range-as-rust}
+use Rattle.zoom.specs.AsRust.{mirror, zooms-as-rust, turned-zooms, none-too-deep, set-as-rust, set-rev-as-rust, range-as-rust}
 use Rattle.zoom.specs.Listing.{set-back, list-back, rev-lower}
 use Rattle.zoom.specs.Rust.{zoomMaxXY, zset2zvec, zset2zvecRev, zvec2zset, zvec2zsetRev, bitandZoom, all}
 use Rattle.zoom.specs.Zooms.{zoomsOf, zoomsOfRev, setOfZoomsRev, zoomBit, zoomBitRev, andZoom}
@@ -26,7 +26,7 @@ pub set-of-zooms-of-set : (zset : ℕ) → zset < 2 ^ 31 → setOfZooms (zoomsOf
 set-of-zooms-of-set zset h = set-back zset h
 
 -- a zoom is in the zooms of a list's set exactly if it is in the list
-pub zooms-of-set-of-zooms : (zooms : List ℕ) → anyDeeper zooms ≡ false → (z : ℕ) → listed (zoomsOf (setOfZooms zooms)) z ≡ listed zooms z
+pub zooms-of-set-of-zooms : (zooms : List ℕ) → anyDeeper zooms ≡ false → (z : ℕ) → zoomsIn (zoomsOf (setOfZooms zooms)) z ≡ zoomsIn zooms z
 zooms-of-set-of-zooms zooms e z = list-back zooms e z
 
 -- the zooms of a set rise strictly
@@ -45,10 +45,10 @@ rust-zset2zvec-rev calls zset = turned-zooms calls zset
 
 -- "`zvec2zset` takes zooms to 30"
 pub rust-zvec2zset : (zooms : List ℕ) → ((z : ℕ) → List·Memᴰ z zooms → z ≤ 30) → zvec2zset zooms ≡ setOfZooms zooms
-rust-zvec2zset zooms h = set-as-rust zooms (none-deeper zooms h)
+rust-zvec2zset zooms h = set-as-rust zooms (none-too-deep zooms h)
 
 pub rust-zvec2zset-rev : (zooms : List ℕ) → ((z : ℕ) → List·Memᴰ z zooms → z ≤ 30) → zvec2zsetRev zooms ≡ setOfZoomsRev zooms
-rust-zvec2zset-rev zooms h = set-rev-as-rust zooms (none-deeper zooms h)
+rust-zvec2zset-rev zooms h = set-rev-as-rust zooms (none-too-deep zooms h)
 
 -- the set of a range is the set of the list from its lowest to its highest zoom
 pub rust-zoom-set : (low high : ℕ) → high ≤ 30 → zvec2zset (fromTo low high) ≡ setOf (between low high) (suc lastZoom)
@@ -77,12 +77,12 @@ rust-zoom-max-xy zoom h = rw (pow-within zoom 32 (omega arith))
 -- the smallest list and the smallest set that do not come back, after those that do
 pub rev-not-undone : (zoomsOfRev (setOfZoomsRev []) ≡ []) × ((setOfZoomsRev (zoomsOfRev 0) ≡ 0)
     × ((zoomsOfRev (setOfZoomsRev (0 ∷ [])) ≡ []) × (setOfZoomsRev (zoomsOfRev 1) ≡ 2)))
-unfolding hasBit those setOf listed
+unfolding hasBit those setOf zoomsIn
 rev-not-undone = (refl, (refl, (refl, refl)))
 
 -- every zoom comes back one lower, and zoom 0 not at all
 pub rev-one-lower : (zooms : List ℕ) → anyDeeper zooms ≡ false → (z : ℕ) → z ≤ 30
-    → listed (zoomsOfRev (setOfZoomsRev zooms)) z ≡ listed zooms (suc z)
+    → zoomsIn (zoomsOfRev (setOfZoomsRev zooms)) z ≡ zoomsIn zooms (suc z)
 rev-one-lower zooms e z h = rev-lower zooms e z h
 
 -- the bit that `and_zoom` looks for is not the zoom's own: the set of zoom 0 and zoom 0 have nothing in common
@@ -100,14 +100,14 @@ pub all-zooms : 2 ^ suc lastZoom - 1 ≡ setOf (between 0 lastZoom) (suc lastZoo
 all-zooms = omega (arith, set-of-span 0 lastZoom (suc lastZoom) (omega arith) (omega arith))
 
 -- a single zoom's number is that of the list of it
-pub one-zoom : (z : ℕ) → z ≤ lastZoom → setOfZooms (z ∷ []) ≡ 2 ^ z
-unfolding listed
-one-zoom z h = set-same (listed (z ∷ [])) (λ i. eqb i z) (suc lastZoom) (λ i l. or-false (eqb i z))
+pub set-of-one-zoom : (z : ℕ) → z ≤ lastZoom → setOfZooms (z ∷ []) ≡ 2 ^ z
+unfolding zoomsIn
+set-of-one-zoom z h = set-same (zoomsIn (z ∷ [])) (λ i. eqb i z) (suc lastZoom) (λ i l. or-false (eqb i z))
     ∙ set-of-one z (suc lastZoom) (omega arith)
 
-pub one-zoom-rev : (z : ℕ) → z ≤ lastZoom → setOfZoomsRev (z ∷ []) ≡ 2 ^ (turnBit - z)
-unfolding listed
-one-zoom-rev z h =
-    set-same (λ i. listed (z ∷ []) (turnBit - i)) (λ i. eqb i (turnBit - z)) (suc turnBit)
+pub set-of-one-zoom-rev : (z : ℕ) → z ≤ lastZoom → setOfZoomsRev (z ∷ []) ≡ 2 ^ (turnBit - z)
+unfolding zoomsIn
+set-of-one-zoom-rev z h =
+    set-same (λ i. zoomsIn (z ∷ []) (turnBit - i)) (λ i. eqb i (turnBit - z)) (suc turnBit)
     (λ i l. or-false (eqb (turnBit - i) z) ∙ sym (mirror i z (omega arith) (omega arith)))
     ∙ set-of-one (turnBit - z) (suc turnBit) (omega arith)

@@ -8,7 +8,7 @@ use lib.Bits.{bitAnd}
 use Rattle.constants.specs.Limits.{maxZoom, maxEntries}
 use Rattle.errors.specs.Answer.{Answer, answer, _when_, _else_}
 use Rattle.errors.specs.Cases.{refusedAs}
-use Rattle.zoom_bits.specs.Bits.{lastZoom, turnBit, hasBit, those, setOf, between, downFrom, listed, anyDeeper, setOfZooms}
+use Rattle.zoom_bits.specs.Bits.{lastZoom, turnBit, hasBit, those, setOf, between, downFrom, zoomsIn, anyDeeper, setOfZooms}
 use Rattle.zoom_ranges.specs.declared.ZoomRange.{ZoomRange}
 use Rattle.zoom.specs.declared.ZoomSetAnswer.{ZoomSetAnswer}
 use Rattle.zoom.specs.declared.ZoomSetAnswer.the-variants.{Set, Refused}
@@ -30,18 +30,18 @@ zoomsOfRev zset = those (downFrom lastZoom zset) (suc lastZoom)
 
 -- ---- the set of a list of zooms
 
-abbrev pub listRefusal : List ℕ → ℕ
-listRefusal zooms = 1 when anyDeeper zooms else 6 when ltb maxEntries (length zooms)
+abbrev pub zoomsRefusal : List ℕ → ℕ
+zoomsRefusal zooms = 1 when anyDeeper zooms else 6 when ltb maxEntries (length zooms)
 
 -- bit 31 - z is zoom z
 abbrev pub setOfZoomsRev : List ℕ → ℕ
-setOfZoomsRev zooms = setOf (λ i. listed zooms (turnBit - i)) (suc turnBit)
+setOfZoomsRev zooms = setOf (λ i. zoomsIn zooms (turnBit - i)) (suc turnBit)
 
 abbrev pub zvecSet : List ℕ → Answer ℕ
-zvecSet zooms = answer (listRefusal zooms) 0 (setOfZooms zooms)
+zvecSet zooms = answer (zoomsRefusal zooms) 0 (setOfZooms zooms)
 
 abbrev pub zvecSetRev : List ℕ → Answer ℕ
-zvecSetRev zooms = answer (listRefusal zooms) 0 (setOfZoomsRev zooms)
+zvecSetRev zooms = answer (zoomsRefusal zooms) 0 (setOfZoomsRev zooms)
 
 -- ---- a single zoom, and a range
 

@@ -15,7 +15,7 @@ ghost use Rattle.errors.specs.Answer.{written};
 ghost use Rattle.errors.specs.Cases.{checkNumber, u32Case, left};
 ghost use Rattle.zoom_bits.specs.Bits.{lastZoom};
 ghost use Rattle.zoom_ranges.specs.Ranges.{leftTwo, rangesOf};
-ghost use Rattle.zoom.specs.Zooms.{maxXY, zoomsOf, zoomsOfRev, listRefusal, zvecSet, zvecSetRev};
+ghost use Rattle.zoom.specs.Zooms.{maxXY, zoomsOf, zoomsOfRev, zoomsRefusal, zvecSet, zvecSetRev};
 ghost use Rattle.zoom.specs.Zooms.{zoomBit, zoomBitRev, andZoom, rangeSet, zoomSetCase};
 
 pub struct ZoomSet(u32);
@@ -185,7 +185,7 @@ fn as_set(answer: U32Answer) -> ZoomSetAnswer
 }
 
 fn check_zooms(zvec: &[u8]) -> Check
-    ensures { λ r. ⌜ checkNumber r ≡ listRefusal (now (zvec .entry)) ⌝ }
+    ensures { λ r. ⌜ checkNumber r ≡ zoomsRefusal (now (zvec .entry)) ⌝ }
 {
     let deep = zoom_bits::any_deeper(zvec);
     let many = zvec.len() > MAX_ENTRIES;

@@ -41,9 +41,9 @@ downFrom top zset i = hasBit zset (top - i)
 
 -- ---- a list of zooms
 
-unfoldable pub listed : List ℕ → ℕ → Bool
-listed [] z = false
-listed (a ∷ l) z = eqb z a || listed l z
+unfoldable pub zoomsIn : List ℕ → ℕ → Bool
+zoomsIn [] z = false
+zoomsIn (a ∷ l) z = eqb z a || zoomsIn l z
 
 -- whether a zoom of the list is too deep
 unfoldable pub anyDeeper : List ℕ → Bool
@@ -52,4 +52,4 @@ anyDeeper (a ∷ l) = ltb lastZoom a || anyDeeper l
 
 -- bit z is zoom z
 abbrev pub setOfZooms : List ℕ → ℕ
-setOfZooms zooms = setOf (listed zooms) (suc lastZoom)
+setOfZooms zooms = setOf (zoomsIn zooms) (suc lastZoom)

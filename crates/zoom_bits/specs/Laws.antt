@@ -290,7 +290,7 @@ pub those-of-set : (has : ℕ → Bool) (n : ℕ) → those (hasBit (setOf has n
 those-of-set has n = those-same (hasBit (setOf has n)) has n (bit-of-set has n)
 
 -- what is filled with the zooms of a number, where the number is a set
-pub filled : (has : ℕ → Bool) {set : ℕ} (memory : List ℕ) {after : List ℕ} → set ≡ setOf has (suc lastZoom)
+pub zooms-filled : (has : ℕ → Bool) {set : ℕ} (memory : List ℕ) {after : List ℕ} → set ≡ setOf has (suc lastZoom)
     → after ≡ those (hasBit set) (suc lastZoom) ++ drop (length (those (hasBit set) (suc lastZoom))) memory
     → after ≡ those has (suc lastZoom) ++ drop (length (those has (suc lastZoom))) memory
-filled has memory e f = f ∙ (rw e (ap (λ (l : List ℕ). l ++ drop (length l) memory) (those-of-set has (suc lastZoom))))
+zooms-filled has memory e f = f ∙ (rw e (ap (λ (l : List ℕ). l ++ drop (length l) memory) (those-of-set has (suc lastZoom))))

@@ -9,17 +9,17 @@ use lib.ListN.{length, getD, take, drop}
 use lib.Seq.{drop-cons, take-suc}
 use lib.Bits.{bitOr}
 use borrow.Author.Tests.{ltb-false}
-use Rattle.zoom_bits.specs.Bits.{lastZoom, listed, anyDeeper, setOfZooms}
+use Rattle.zoom_bits.specs.Bits.{lastZoom, zoomsIn, anyDeeper, setOfZooms}
 use Rattle.zoom_bits.specs.Laws.{set-with, set-same}
 
-pub listed-append : (l m : List ℕ) (z : ℕ) → listed (l ++ m) z ≡ listed l z || listed m z
-unfolding listed
+pub listed-append : (l m : List ℕ) (z : ℕ) → zoomsIn (l ++ m) z ≡ zoomsIn l z || zoomsIn m z
+unfolding zoomsIn
 listed-append [] m z = refl
-listed-append (a ∷ l) m z = rw (listed-append l m z) (sym (or-assoc (eqb z a) (listed l z) (listed m z)))
+listed-append (a ∷ l) m z = rw (listed-append l m z) (sym (or-assoc (eqb z a) (zoomsIn l z) (zoomsIn m z)))
 
-listed-snoc : (l : List ℕ) (a z : ℕ) → listed (l ++ (a ∷ [])) z ≡ listed l z || eqb z a
-unfolding listed
-listed-snoc l a z = listed-append l (a ∷ []) z ∙ ap (λ (b : Bool). listed l z || b) (or-false (eqb z a))
+listed-snoc : (l : List ℕ) (a z : ℕ) → zoomsIn (l ++ (a ∷ [])) z ≡ zoomsIn l z || eqb z a
+unfolding zoomsIn
+listed-snoc l a z = listed-append l (a ∷ []) z ∙ ap (λ (b : Bool). zoomsIn l z || b) (or-false (eqb z a))
 
 pub or-none : (a b : Bool) → (a || b) ≡ false → (a ≡ false) × (b ≡ false)
 or-none false b e = (refl, e)
@@ -40,6 +40,6 @@ deeper-at l i h = ap anyDeeper (drop-cons l i 0 h)
 pub set-of-next : (l : List ℕ) (i : ℕ) → anyDeeper l ≡ false → i < length l
     → bitOr (setOfZooms (take i l)) (2 ^ getD l i 0) ≡ setOfZooms (take (suc i) l)
 set-of-next l i e h =
-    set-with (listed (take i l)) (getD l i 0) (suc lastZoom) (omega (arith, none-deeper l i e h))
-    ∙ set-same (λ z. listed (take i l) z || eqb z (getD l i 0)) (listed (take (suc i) l)) (suc lastZoom)
+    set-with (zoomsIn (take i l)) (getD l i 0) (suc lastZoom) (omega (arith, none-deeper l i e h))
+    ∙ set-same (λ z. zoomsIn (take i l) z || eqb z (getD l i 0)) (zoomsIn (take (suc i) l)) (suc lastZoom)
     (λ z k. rw (take-suc l i 0 h) (sym (listed-snoc (take i l) (getD l i 0) z)))

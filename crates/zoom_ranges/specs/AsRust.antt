@@ -10,8 +10,8 @@ use Rattle.zoom_bits.specs.Bits.{those}
 use Rattle.zoom_bits.specs.Masks.{masked, masked-is}
 use Rattle.zoom_ranges.specs.Ranges.{rangeOf, firstRun, lastRun, inRun, runStarts, runEnds, runLows, runHighs}
 use Rattle.zoom_ranges.specs.Runs.{start-zero, starts-here, starts-inside, starts-outside, ends-here, ends-inside, ends-outside}
-use Rattle.zoom_ranges.specs.Runs.{run-ended, run-unstarted}
-use Rattle.zoom_ranges.specs.Rust.{Walk, turn, walk, finished, zoomRanges}
+use Rattle.zoom_ranges.specs.Runs.{past-last-run, run-unstarted}
+use Rattle.zoom_ranges.specs.Rust.{RunWalk, turn, walk, afterLoop, zoomRanges}
 use Rattle.zoom_ranges.specs.declared.ZoomRange.{ZoomRange}
 
 abbrev pub lowest : List ZoomRange → List ℕ
@@ -25,14 +25,14 @@ map-append f [] m = refl
 map-append f (a ∷ l) m = ap (λ (k : List ℕ). f a ∷ k) (map-append f l m)
 
 -- what the loop knows after the turn of i: the runs that have ended, and the open one, if zoom i is in one
-record Walked (zset i : ℕ) (w : Walk) : Type 0 where
+record Walked (zset i : ℕ) (w : RunWalk) : Type 0 where
   lows : lowest (w .ranges) ++ cond (inRun zset i) (w .min ∷ []) [] ≡ those (runStarts zset) (suc i)
   highs : highest (w .ranges) ≡ those (runEnds zset) i
   shut : eqb (w .min) 0 ≡ not (inRun zset i)
   last : inRun zset i ≡ true → w .max ≡ i
 
 -- the turn of the next zoom, by whether it and the one before are in a run
-next : (zset i : ℕ) (w : Walk) → Walked zset i w → Walked zset (suc i) (turn (inRun zset (suc i)) (suc i) w)
+next : (zset i : ℕ) (w : RunWalk) → Walked zset i w → Walked zset (suc i) (turn (inRun zset (suc i)) (suc i) w)
 next zset i w k = pick (inRun zset i) refl (inRun zset (suc i)) refl
   where
     pick : (a : Bool) → inRun zset i ≡ a → (b : Bool) → inRun zset (suc i) ≡ b → Walked zset (suc i) (turn b (suc i) w)
@@ -87,7 +87,7 @@ before-all zset = run-unstarted zset 0 (omega arith)
 
 after-all : (zset : ℕ) → inRun zset 30 ≡ false
 unfolding lastRun
-after-all zset = run-ended zset 30 (omega arith)
+after-all zset = past-last-run zset 30 (omega arith)
 
 -- the turn of zoom 0 opens nothing
 first-turn : (b : Bool) → turn b 0 (record { min = 0; max = 0; ranges = [] }) ≡ record { min = 0; max = 0; ranges = [] }
@@ -114,8 +114,8 @@ ends-done : (zset : ℕ) → runHighs zset ≡ those (runEnds zset) 30
 ends-done zset = ends-outside zset 30 (after-all zset)
 
 -- after the last turn an open run is pushed
-finish : (zset : ℕ) (w : Walk) → Walked zset 29 w → (b : Bool) → inRun zset 29 ≡ b
-    → (lowest (finished w) ≡ those (runStarts zset) 30) × (highest (finished w) ≡ those (runEnds zset) 30)
+finish : (zset : ℕ) (w : RunWalk) → Walked zset 29 w → (b : Bool) → inRun zset 29 ≡ b
+    → (lowest (afterLoop w) ≡ those (runStarts zset) 30) × (highest (afterLoop w) ≡ those (runEnds zset) 30)
 finish zset w k true e =
     rw (k .shut, e) (
       map-append (λ (r : ZoomRange). r .min) (w .ranges) (rangeOf (w .min) (w .max) ∷ []) ∙ (rw e at (k .lows)),

@@ -15,16 +15,16 @@ use Rattle.zoom_bits.specs.Laws.{those-with, those-without, set-below, same-bit
 use Rattle.zoom_bits.specs.Laws.{bit-double, bit-even}
 use Rattle.zoom_ranges.specs.Ranges.{runLows, runHighs, firstRun, lastRun, run-end, inRun, runStarts, runEnds}
 
-pub run-ended : (zset i : ℕ) → lastRun < i → inRun zset i ≡ false
+pub past-last-run : (zset i : ℕ) → lastRun < i → inRun zset i ≡ false
 unfolding inRun
-run-ended zset i h = rw (lt-leb i lastRun h, and-false (leb firstRun i))
+past-last-run zset i h = rw (lt-leb i lastRun h, and-false (leb firstRun i))
 
 pub run-unstarted : (zset i : ℕ) → i < firstRun → inRun zset i ≡ false
 unfolding inRun
 run-unstarted zset i h = rw (lt-leb firstRun i h)
 
 pub past : (zset i : ℕ) → suc lastZoom ≤ i → inRun zset i ≡ false
-past zset i h = run-ended zset i (omega (arith, run-end))
+past zset i h = past-last-run zset i (omega (arith, run-end))
 
 -- the bits of a set that runs are made of
 abbrev pub runBits : ℕ → ℕ
@@ -56,7 +56,7 @@ edge true y true h = rw (h refl)
 end-plain : (zset i : ℕ) → runEnds zset i ≡ inRun zset i && not (inRun zset (suc i))
 unfolding runEnds
 end-plain zset i = edge (inRun zset i) (inRun zset (suc i)) (eqb i lastRun)
-    (λ e. run-ended zset (suc i) (omega (arith, eqb-true i lastRun e)))
+    (λ e. past-last-run zset (suc i) (omega (arith, eqb-true i lastRun e)))
 
 start-plain : (zset i : ℕ) → runStarts zset (suc i) ≡ inRun zset (suc i) && not (inRun zset i)
 unfolding runStarts

@@ -19,28 +19,28 @@ abbrev pub default : ZoomRange
 default = rangeOf 0 30
 
 -- the variables of the loop of zoom_ranges
-pub record Walk : Type 0 where
+pub record RunWalk : Type 0 where
   pub min : ℕ
   pub max : ℕ
   pub ranges : List ZoomRange
 
-abbrev pub pushed : Walk → List ZoomRange
-pushed w = w .ranges ++ (rangeOf (w .min) (w .max) ∷ [])
+abbrev pub runPushed : RunWalk → List ZoomRange
+runPushed w = w .ranges ++ (rangeOf (w .min) (w .max) ∷ [])
 
 -- one turn: a bit opens a run or lengthens it, a gap ends it, and min = 0 says that none is open
-abbrev pub turn : Bool → ℕ → Walk → Walk
+abbrev pub turn : Bool → ℕ → RunWalk → RunWalk
 turn true i w = record { min = cond (eqb (w .min) 0) i (w .min); max = i; ranges = w .ranges }
-turn false i w = cond (eqb (w .min) 0) w (record { min = 0; max = 0; ranges = pushed w })
+turn false i w = cond (eqb (w .min) 0) w (record { min = 0; max = 0; ranges = runPushed w })
 
 -- the variables before the turn of i
-unfoldable pub walk : ℕ → ℕ → Walk
+unfoldable pub walk : ℕ → ℕ → RunWalk
 walk zset zero = record { min = 0; max = 0; ranges = [] }
 walk zset (suc i) = turn (masked zset i) i (walk zset i)
 
 -- after the loop
-abbrev pub finished : Walk → List ZoomRange
-finished w = cond (eqb (w .min) 0) (w .ranges) (pushed w)
+abbrev pub afterLoop : RunWalk → List ZoomRange
+afterLoop w = cond (eqb (w .min) 0) (w .ranges) (runPushed w)
 
 -- the loop runs while i < MAX_ZOOM
 abbrev pub zoomRanges : ℕ → List ZoomRange
-zoomRanges zset = finished (walk zset 30)
+zoomRanges zset = afterLoop (walk zset 30)

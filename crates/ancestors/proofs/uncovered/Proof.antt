@@ -6,13 +6,13 @@ use borrow.Author.Needs.{needs}
 use lib.ListN.{length, getD}
 use Rattle.constants.specs.Limits.{maxZoom-small}
 use Rattle.quadtree.specs.Locations.{IsLocation}
-use Rattle.ancestors.specs.Laws.{Tested, untested, tested-more}
-use Rattle.ancestors.specs.Walk.{Walk, begun, top-location, next-location, next-ahead, skipped, kept, ended}
+use Rattle.ancestors.specs.Laws.{AncestorsTested, untested, tested-more}
+use Rattle.ancestors.specs.Walk.{Walk, walk-begun, top-location, next-location, next-ahead, skipped, kept, ended}
 use Rattle.ancestors.proofs.uncovered.Statement.{statement}
 use Rattle.ancestors.proofs.uncovered.Tie as tie
 
 abbrev Inv-loop : tie.InvT-loop
-Inv-loop locations tops m count top i k highest morton steps₀ steps = Tested morton highest steps₀ steps
+Inv-loop locations tops m count top i k highest morton steps₀ steps = AncestorsTested morton highest steps₀ steps
 
 abbrev μ-loop : tie.MeasureT-loop
 μ-loop locations tops m count top i k highest morton steps₀ steps = steps
@@ -53,7 +53,7 @@ falls : (c : Read) → let n = length (start c .args .locations .now) in n - (wa
 falls c = omega (arith, walk c .tiles .inv .long, more c)
 
 tiles-holds : tie.Need-tiles-holds Inv-loop μ-loop Inv-tiles μ-tiles
-tiles-holds c = begun
+tiles-holds c = walk-begun
 
 mul-k : tie.Need-mul-k Inv-loop μ-loop Inv-tiles μ-tiles
 mul-k c = search needs

@@ -7,7 +7,7 @@ use lib.Seq.{length-take-le}
 use Rattle.constants.specs.Limits.{maxLine}
 use Rattle.form_stream.specs.Scan.{Scan, scanOf}
 use Rattle.form_stream.specs.Scanned.{Feeds, feeds}
-use Rattle.areas.specs.LineSoFar.{keptOf, nothing-more}
+use Rattle.areas.specs.LineSoFar.{lineKept, nothing-more}
 use borrow.Author.Needs.{needs}
 use Rattle.areas.proofs.take_in.Statement.{statement}
 use Rattle.areas.proofs.take_in.Tie as tie
@@ -15,7 +15,7 @@ use Rattle.areas.proofs.take_in.Tie as tie
 abbrev Inv-loop : tie.InvT-loop
 Inv-loop chunk line₀ out₀ so-far₀ line out so-far =
     (length out ≡ length out₀) × (length line ≡ suc maxLine) × (so-far .at ≤ length chunk)
-    × (keptOf (take (so-far .len) line) (drop (so-far .at) chunk) ≡ keptOf (take (so-far₀ .len) line₀) (drop (so-far₀ .at) chunk))
+    × (lineKept (take (so-far .len) line) (drop (so-far .at) chunk) ≡ lineKept (take (so-far₀ .len) line₀) (drop (so-far₀ .at) chunk))
 
 abbrev μ-loop : tie.MeasureT-loop
 μ-loop chunk line₀ out₀ so-far₀ line out so-far = length chunk - so-far .at
@@ -86,7 +86,7 @@ returns-2 c =
       s .loop .inv .0,
       s .loop .inv .1,
       nothing-more (a .chunk .now) (s .loop .so-far .at) (s .loop .so-far .len) (s .loop .line) (s .loop .inv .1) (c .if1 .left)
-          ∙ (s .loop .inv .3 ∙ ap₂ (λ (len at : ℕ). keptOf (take len (a .line .now)) (drop at (a .chunk .now))) (n .ensures .1) (n .ensures .0)),
+          ∙ (s .loop .inv .3 ∙ ap₂ (λ (len at : ℕ). lineKept (take len (a .line .now)) (drop at (a .chunk .now))) (n .ensures .1) (n .ensures .0)),
     )
 
 pub take-in-spec : {M : Type 1} → statement M

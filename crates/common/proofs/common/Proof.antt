@@ -7,18 +7,18 @@ use lib.ListN.{length, getD, length-set}
 use borrow.Author.Needs.{needs}
 use borrow.Author.Tests.{ltb-true, ltb-false}
 use Rattle.quadtree.specs.Locations.{IsLocation, room}
-use Rattle.common.specs.Walk.{Walked, begun, turned, over, inside, nested, ended}
+use Rattle.common.specs.Walk.{BothWalked, both-begun, turned, over, inside, nested, ended}
 use Rattle.common.proofs.common.Statement.{statement}
 use Rattle.common.proofs.common.Tie as tie
 
 abbrev Inv-loop : tie.InvT-loop
-Inv-loop a b out₀ i₀ j₀ n₀ out i j n = (length out ≡ length out₀) × Walked a b out i j n
+Inv-loop a b out₀ i₀ j₀ n₀ out i j n = (length out ≡ length out₀) × BothWalked a b out i j n
 
 abbrev μ-loop : tie.MeasureT-loop
 μ-loop a b out₀ i₀ j₀ n₀ out i j n = length a + length b - (i + j)
 
 loop-holds : tie.Need-loop-holds Inv-loop μ-loop
-loop-holds c = let a = c .before .before .before .args in (refl, begun (a .a .now) (a .b .now) (a .out .now))
+loop-holds c = let a = c .before .before .before .args in (refl, both-begun (a .a .now) (a .b .now) (a .out .now))
 
 mul-p : tie.Need-mul-p Inv-loop μ-loop
 mul-p c = search needs

@@ -3,13 +3,13 @@ use Prim.Native.Nat.{_-_}
 use native.Mathlib.Omega.{arith}
 use borrow.Author.Needs.{needs}
 use lib.ListN.{length}
-use Rattle.difference.specs.Middle.{Mid, begun, moved, ended}
+use Rattle.difference.specs.Middle.{WalkedTo, begun, moved, ended}
 use Rattle.difference.specs.Walk.{come-on, wrote-length}
 use Rattle.difference.proofs.left.Statement.{statement}
 use Rattle.difference.proofs.left.Tie as tie
 
 abbrev Inv-loop : tie.InvT-loop
-Inv-loop kept gone out₀ at₀ i₀ out at i = Mid kept gone out₀ out i (at .next) (at .count)
+Inv-loop kept gone out₀ at₀ i₀ out at i = WalkedTo kept gone out₀ out i (at .next) (at .count)
 
 abbrev μ-loop : tie.MeasureT-loop
 μ-loop kept gone out₀ at₀ i₀ out at i = length kept - i

@@ -5,12 +5,12 @@ use Prim.Native.Nat.{_-_}
 use native.Mathlib.Omega.{arith}
 use lib.ListN.{length}
 use borrow.Author.Needs.{needs}
-use Rattle.form.specs.Keys.{Passed, passed-none, keys-closed, keys-broken, keys-past}
+use Rattle.form.specs.Keys.{KeysRead, passed-none, keys-closed, keys-broken, keys-past}
 use Rattle.form.proofs.keys_end.Statement.{statement}
 use Rattle.form.proofs.keys_end.Tie as tie
 
 abbrev Inv-loop : tie.InvT-loop
-Inv-loop bytes at₀ at = Passed at bytes
+Inv-loop bytes at₀ at = KeysRead at bytes
 
 abbrev μ-loop : tie.MeasureT-loop
 μ-loop bytes at₀ at = length bytes - at

@@ -15,7 +15,7 @@ use Rattle.form.specs.Words.{tilesFront, pairFront}
 use Rattle.form.specs.declared.Word.the-variants as word
 use Rattle.form_area.specs.Area.{operated, formArea}
 use Rattle.form_area.specs.Areas.{left-refused-area, right-refused-area, operated-area}
-use Rattle.form_area.specs.Calls.{valued, Within, call-within, operated-gives}
+use Rattle.form_area.specs.Calls.{valued, CountFits, call-within, operated-gives}
 use Rattle.form_area.specs.Promised.{PairSpelled, KeysSpelled, OfPair, OfKeys, spelled-keys, form-of-keys, spelled-pair, form-of-pair, some-word, left-reads, right-reads, pair-room}
 use Prim.Native.Nat.{ℕ, _+_, _-_, _*_, _≤_, _<_}
 use borrow.Fn.Kinds.{In}
@@ -126,10 +126,10 @@ pair-enum-known-j : (t : ℕ) → pair-lts.Need-enum-known-j (pair-calls t) (pai
 pair-enum-known-j t c = search needs
 
 left-count : (t : ℕ) (c : pair-lts.After-i (pair-calls t) (pair-at t) pair.Post) → c .i .given .0 .0 ≤ length (c .before .before .before .value .last .1 .0)
-left-count t c = subst (λ (r : Count). Within r (c .before .before .before .value .last .1 .0)) (c .i .given .1) (c .before .before .before .value .ensures .within)
+left-count t c = subst (λ (r : Count). CountFits r (c .before .before .before .value .last .1 .0)) (c .i .given .1) (c .before .before .before .value .ensures .within)
 
 right-count : (t : ℕ) (c : pair-lts.After-j (pair-calls t) (pair-at t) pair.Post) → c .j .given .0 .0 ≤ length (c .before .before .before .value2 .last .1 .0)
-right-count t c = subst (λ (r : Count). Within r (c .before .before .before .value2 .last .1 .0)) (c .j .given .1) (c .before .before .before .value2 .ensures .within)
+right-count t c = subst (λ (r : Count). CountFits r (c .before .before .before .value2 .last .1 .0)) (c .j .given .1) (c .before .before .before .value2 .ensures .within)
 
 left-area : (t : ℕ) (c : pair-lts.After-i (pair-calls t) (pair-at t) pair.Post) (f g : Form)
     → PairFirst f g [] (c .before .before .before .before .before .before .before .before .before .args .body .now)

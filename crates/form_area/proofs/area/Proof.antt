@@ -12,7 +12,7 @@ use Rattle.errors.specs.declared.Count.{Count}
 use Rattle.form.specs.Form.{Form, Reads}
 use Rattle.form.specs.Reading.{lineRefusal, line-fine}
 use Rattle.form_area.specs.Area.{lineArea}
-use Rattle.form_area.specs.Calls.{valued, Within}
+use Rattle.form_area.specs.Calls.{valued, CountFits}
 use Rattle.form_area.specs.Lines.{line-area, line-refused}
 use borrow.Author.Needs.{needs}
 use Rattle.form_area.proofs.area.Statement.{statement}
@@ -41,7 +41,7 @@ enum-known-n : tie.Need-enum-known-n
 enum-known-n c = search needs
 
 count-within : (c : tie.After-n) → c .n .given .0 .0 ≤ length (c .before .before .before .value .last .1 .0)
-count-within c = subst (λ (r : Count). Within r (c .before .before .before .value .last .1 .0)) (c .n .given .1) (c .before .before .before .value .ensures .within)
+count-within c = subst (λ (r : Count). CountFits r (c .before .before .before .value .last .1 .0)) (c .n .given .1) (c .before .before .before .value .ensures .within)
 
 lined : (c : tie.After-value) → valued (c .value .result) (c .value .last .1 .0) ≡ lineArea (c .before .before .before .before .before .before .before .args .line .now)
 lined c =

@@ -1,11 +1,11 @@
--- `neighbors::spot_at` meets its contract: its tests are those of `inside`, for the row and then the column.
+-- `neighbors::spot_at` meets its contract: its tests are those of `stepOnMap`, for the row and then the column.
 use mathlib.Core.Path.{_≡_}
 use mathlib.Core.Bool.{true}
 use Prim.Native.Nat.{_+_, _/_, _%_, _^_, _≤_, _<_}
 use native.Mathlib.Omega.{arith}
 use borrow.Author.Needs.{needs}
 use Rattle.tile.specs.OnMap.{on-map-small, side-small}
-use Rattle.neighbors.specs.Neighbors.{inside}
+use Rattle.neighbors.specs.Neighbors.{stepOnMap}
 use Rattle.neighbors.specs.Laws.{one-of-nine, near-off-row, below-one, past-side, within-side}
 use Rattle.neighbors.proofs.spot_at.Statement.{statement}
 use Rattle.neighbors.proofs.spot_at.Tie as tie
@@ -51,7 +51,7 @@ rem-t14 : tie.Need-rem-t14
 rem-t14 c = search needs
 
 -- past the tests of the row, it is inside
-row-inside : (c : tie.After-square) → let a = c .before .args in let s = c .square .result % 3 in 1 ≤ a .y + s → a .y + s ≤ a .end → inside (2 ^ a .z) (a .y) s ≡ true
+row-inside : (c : tie.After-square) → let a = c .before .args in let s = c .square .result % 3 in 1 ≤ a .y + s → a .y + s ≤ a .end → stepOnMap (2 ^ a .z) (a .y) s ≡ true
 row-inside c h l = let a = c .before .args in within-side (2 ^ a .z) (a .y) (c .square .result % 3) h (rw (c .before .pre .1 .0) at l)
 
 returns-3 : tie.Need-returns-3

@@ -8,7 +8,7 @@ use Rattle.bits.specs.Bits.{bit-small}
 use Rattle.constants.specs.Limits.{maxZoom-small}
 use Rattle.errors.specs.Memory.{front, front-length}
 use Rattle.quadkey.specs.Key.{keyFrom}
-use Rattle.quadkey.specs.Laws.{key-length, fill-digit, filled}
+use Rattle.quadkey.specs.Laws.{key-length, fill-digit, key-filled}
 use Rattle.quadkey.proofs.fill.Statement.{statement}
 use Rattle.quadkey.proofs.fill.Tie as tie
 
@@ -64,7 +64,7 @@ same-length c = kept (c .before)
 returns : tie.Need-returns Inv-loop μ-loop
 returns c =
     let e : c .before .loop .i ≡ c .before .before .before .args .z = omega arith in
-    c .before .loop .inv .1 ∙ rw e (filled _ _ _ _ _)
+    c .before .loop .inv .1 ∙ rw e (key-filled _ _ _ _ _)
 
 pub fill-spec : {M : Type 1} → statement M
 fill-spec =

@@ -6,7 +6,7 @@ use native.Mathlib.Omega.{arith}
 use borrow.Author.Needs.{needs}
 use lib.ListN.{length, getD}
 use Rattle.quadtree.specs.Locations.{IsLocation, room}
-use Rattle.settle.specs.Middle.{Mid, begun, next-location, joins-less, dropped, kept-top, ended}
+use Rattle.settle.specs.Middle.{Mid, mid-begun, next-location, joins-less, dropped, kept-top, ended}
 use Rattle.settle.proofs.settle.Statement.{statement}
 use Rattle.settle.proofs.settle.Tie as tie
 
@@ -17,7 +17,7 @@ abbrev μ-loop : tie.MeasureT-loop
 μ-loop locations₀ m count₀ end₀ i₀ locations count end i = length locations₀ - i
 
 loop-holds : tie.Need-loop-holds Inv-loop μ-loop
-loop-holds c = begun (c .before .args .m) (c .before .args .locations .now)
+loop-holds c = mid-begun (c .before .args .m) (c .before .args .locations .now)
 
 -- the number that is read
 next : (c : tie.Then1 Inv-loop μ-loop) → IsLocation (getD (c .before .before .before .loop .locations) (c .before .before .before .loop .i) 0)

@@ -8,7 +8,7 @@ use borrow.Author.Needs.{needs}
 use Rattle.bits.specs.Tests.{anyOf}
 use Rattle.constants.specs.Limits.{maxZoom}
 use Rattle.tile_zbox_numbers.specs.Boxes.{deep, boxFrom, boxesFrom, boxesOf}
-use Rattle.tile_zbox_numbers.specs.Laws.{boxes-step, boxes-end, any-here, any-later, any-none, first-zoom}
+use Rattle.tile_zbox_numbers.specs.Laws.{boxes-step, boxes-end, any-here, any-later, any-of-empty, next-box-zoom}
 use Rattle.tile_zbox_numbers.proofs.any_deep.Statement.{statement}
 use Rattle.tile_zbox_numbers.proofs.any_deep.Tie as tie
 
@@ -36,7 +36,7 @@ returns c =
     let l = c .before .before .before .before .args .boxes .now in
     let i = c .before .before .before .loop in
     sym (i .inv .1 ∙ (ap (anyOf deep) (boxes-step (i .left) (i .at) l (c .before .before .loop-test .taken))
-    ∙ any-here deep (boxFrom (drop (i .at) l)) _ (lt-ltb maxZoom (getD (drop (i .at) l) 0 0) (rw (first-zoom l (i .at)) (c .if1 .taken)))))
+    ∙ any-here deep (boxFrom (drop (i .at) l)) _ (lt-ltb maxZoom (getD (drop (i .at) l) 0 0) (rw (next-box-zoom l (i .at)) (c .if1 .taken)))))
 
 add-at : tie.Need-add-at Inv-loop μ-loop
 add-at c = search needs
@@ -55,11 +55,11 @@ loop-again c =
       omega arith,
       i .inv .1
           ∙ (ap (anyOf deep) (boxes-step (i .left) (i .at) l (c .before .before .loop-test .taken))
-          ∙ any-later deep (boxFrom (drop (i .at) l)) _ (le-ltb maxZoom (getD (drop (i .at) l) 0 0) (rw (first-zoom l (i .at)) (c .if1 .left)))),
+          ∙ any-later deep (boxFrom (drop (i .at) l)) _ (le-ltb maxZoom (getD (drop (i .at) l) 0 0) (rw (next-box-zoom l (i .at)) (c .if1 .left)))),
     )
 
 returns-2 : tie.Need-returns-2 Inv-loop μ-loop
-returns-2 c = sym (c .before .loop .inv .1 ∙ (ap (anyOf deep) (boxes-end (c .before .loop .left) (c .before .loop .at) (c .before .before .args .boxes .now) (omega arith)) ∙ any-none deep))
+returns-2 c = sym (c .before .loop .inv .1 ∙ (ap (anyOf deep) (boxes-end (c .before .loop .left) (c .before .loop .at) (c .before .before .args .boxes .now) (omega arith)) ∙ any-of-empty deep))
 
 pub any-deep-spec : {M : Type 1} → statement M
 any-deep-spec =

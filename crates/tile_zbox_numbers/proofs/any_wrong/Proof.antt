@@ -8,7 +8,7 @@ use borrow.Author.Needs.{needs}
 use Rattle.bits.specs.Tests.{anyOf}
 use Rattle.tile_zbox.specs.Box.{wrongEdges}
 use Rattle.tile_zbox_numbers.specs.Boxes.{deep, boxFrom, boxesFrom, boxesOf}
-use Rattle.tile_zbox_numbers.specs.Laws.{boxes-step, boxes-end, any-here, any-later, any-none, none-of, zoom-at, first-zoom}
+use Rattle.tile_zbox_numbers.specs.Laws.{boxes-step, boxes-end, any-here, any-later, any-of-empty, none-of, zoom-at, next-box-zoom}
 use Rattle.tile_zbox_numbers.proofs.any_wrong.Statement.{statement}
 use Rattle.tile_zbox_numbers.proofs.any_wrong.Tie as tie
 
@@ -28,7 +28,7 @@ box-at-requires c κs = (omega arith, zoom-at (c .before .loop .left) (c .before
 
 wrong-edges-requires : tie.Need-wrong-edges-requires Inv-loop μ-loop
 wrong-edges-requires c κs =
-    rw (c .box-at .ensures, first-zoom (c .before .before .before .before .args .boxes .now) (c .before .before .loop .at))
+    rw (c .box-at .ensures, next-box-zoom (c .before .before .before .before .args .boxes .now) (c .before .before .loop .at))
     (zoom-at (c .before .before .loop .left) (c .before .before .loop .at) _ (c .before .loop-test .taken) (c .before .before .loop .inv .1))
 
 edges : (c : tie.After-wrong-edges Inv-loop μ-loop)
@@ -62,7 +62,7 @@ loop-again c =
 returns-2 : tie.Need-returns-2 Inv-loop μ-loop
 returns-2 c = sym (c .before .loop .inv .2
     ∙ (ap (anyOf wrongEdges) (boxes-end (c .before .loop .left) (c .before .loop .at) (c .before .before .before .args .boxes .now) (omega arith))
-    ∙ any-none wrongEdges))
+    ∙ any-of-empty wrongEdges))
 
 pub any-wrong-spec : {M : Type 1} → statement M
 any-wrong-spec =

@@ -66,7 +66,7 @@ use Rattle.tile_zbox_numbers.specs.Boxes.{boxesLengthOf}
 use Rattle.tile_zbox.specs.declared.TileZBox.{TileZBox}
 use Rattle.tile_zbox.proofs.TileZBox as T
 use Rattle.tile_zbox.proofs.TileZBox.Laws as T′
-use Rattle.tile_zboxes.specs.SoFar.{soFar, _plus_, with-next, room-for-next, all-read}
+use Rattle.tile_zboxes.specs.SoFar.{boxesSoFar, _plus_, with-next, room-for-next, all-read}
 use Rattle.tile_zboxes.proofs.start as start
 use Rattle.tile_zboxes.proofs.start.Symbol as start-def
 use Rattle.tile_zboxes.proofs.start.Symbol.{name as #start}
@@ -133,7 +133,7 @@ module _ {M : Type 1} (𝓤 : URA M) (H : Heap 𝓤) (A : Atoms 𝓤) (W : Given
       (refl, fits) $ fjoin ! $ nothing ! $ join ! $ nothing ! $ move ! (1 ∷ 0 ∷ []) $ done !
 
   abbrev Started : ℕ → U64Answer → Type 0
-  Started n r = u64Case r ≡ soFar n []
+  Started n r = u64Case r ≡ boxesSoFar n []
 
   start-said : (n : ℕ) (r : U64Answer) → ent 𝓤 (ensured 𝓤 H A start.ended (start.clauses 𝓤 H A mem run) tt (n, tt) tt r) (fact 𝓤 (Started n r))
   start-said n r = exE 𝓤 _ (λ ws. snd∗ 𝓤 (sem 𝓤 H A (lasts start.ended tt (n, tt) ws)) (fact 𝓤 (Started n r)))
@@ -215,7 +215,7 @@ module _ {M : Type 1} (𝓤 : URA M) (H : Heap 𝓤) (A : Atoms 𝓤) (W : Given
         a : U64Answer
         u : Val
         is : Is S.the-row a (u ∷ [])
-        read : u64Case a ≡ soFar n (take i ys)
+        read : u64Case a ≡ boxesSoFar n (take i ys)
 
       abbrev sooner : At → At → Type 0
       sooner s s′ = n - s .i < n - s′ .i
@@ -229,7 +229,7 @@ module _ {M : Type 1} (𝓤 : URA M) (H : Heap 𝓤) (A : Atoms 𝓤) (W : Given
       room : (s : At) → s .i < n → u64Case (s .a) .value + lengthOf (nth-box (s .i)) .value < 2 ^ 64
       room s l = rw (s .read) (room-for-next (s .i) ys l)
 
-      read-on : (s : At) (r : U64Answer) → s .i < n → Added (s .a) (nth-box (s .i)) r → u64Case r ≡ soFar n (take (s .i + 1) ys)
+      read-on : (s : At) (r : U64Answer) → s .i < n → Added (s .a) (nth-box (s .i)) r → u64Case r ≡ boxesSoFar n (take (s .i + 1) ys)
       read-on s r l e = e ∙ (ap (λ (a : Answer ℕ). a plus lengthOf (nth-box (s .i))) (s .read) ∙ with-next n (s .i) ys l)
 
       -- the state after a turn, in which `with_box` returned r, whose machine value is u

@@ -9,19 +9,19 @@ use Rattle.tile_zbox.specs.Box.{boxLength}
 use Rattle.tile_zbox_iter.specs.Cursor.{kthTile}
 use Rattle.tile_zbox_numbers.specs.Boxes.{boxFrom, boxesOf}
 use Rattle.tile_zboxes_iter.specs.Cursor.{tilesOfAll}
-use Rattle.tile_zboxes_iter.specs.Laws.{Ahead, first-box, box-readable, tile-here, ahead-on}
+use Rattle.tile_zboxes_iter.specs.Laws.{AmongTiles, first-box, box-readable, tile-here, ahead-on}
 use Rattle.tile_zboxes_iter.proofs.tile_at.Statement.{statement}
 use Rattle.tile_zboxes_iter.proofs.tile_at.Tie as tie
 
 abbrev Inv-loop : tie.InvT-loop
 Inv-loop boxes given at₀ place₀ range₀ tiles₀ at place range tiles =
-    Ahead (drop at boxes) place × (range ≡ boxFrom (drop at boxes)) × (tiles ≡ boxLength range)
+    AmongTiles (drop at boxes) place × (range ≡ boxFrom (drop at boxes)) × (tiles ≡ boxLength range)
     × (getD (tilesOfAll (boxesOf boxes)) given noTile ≡ getD (tilesOfAll (boxesOf (drop at boxes))) place noTile)
 
 abbrev μ-loop : tie.MeasureT-loop
 μ-loop boxes given at₀ place₀ range₀ tiles₀ at place range tiles = length boxes - at
 
-start : (c : tie.Start Inv-loop μ-loop) → Ahead (c .args .boxes .now) (c .args .given)
+start : (c : tie.Start Inv-loop μ-loop) → AmongTiles (c .args .boxes .now) (c .args .given)
 start c = record { boxes = c .pre .0; place = c .pre .1 }
 
 box-at-requires : tie.Need-box-at-requires Inv-loop μ-loop
@@ -35,7 +35,7 @@ loop-holds c = (start (c .before .before .before), c .before .box-at .ensures, c
 
 -- what holds behind the box at `at`, which is passed
 on : (c : tie.In-loop Inv-loop μ-loop)
-    → Ahead (drop (c .before .loop .at + 5) (c .before .before .before .before .before .args .boxes .now)) (c .before .loop .place - c .before .loop .tiles)
+    → AmongTiles (drop (c .before .loop .at + 5) (c .before .before .before .before .before .args .boxes .now)) (c .before .loop .place - c .before .loop .tiles)
     × (getD (tilesOfAll (boxesOf (drop (c .before .loop .at) (c .before .before .before .before .before .args .boxes .now)))) (c .before .loop .place) noTile
     ≡ getD (tilesOfAll (boxesOf (drop (c .before .loop .at + 5) (c .before .before .before .before .before .args .boxes .now)))) (c .before .loop .place - c .before .loop .tiles) noTile)
 on c =

@@ -8,7 +8,7 @@ use lib.ListN.{length, take, getD}
 use lib.Seq.{take-all}
 use borrow.Author.Needs.{needs}
 use Rattle.bits.specs.Powers.{pow-within}
-use Rattle.zoom_bits.specs.Bits.{lastZoom, listed, setOfZooms}
+use Rattle.zoom_bits.specs.Bits.{lastZoom, zoomsIn, setOfZooms}
 use Rattle.zoom_bits.specs.Laws.{set-none}
 use Rattle.zoom_bits.specs.Listed.{set-of-next, none-deeper}
 use Rattle.zoom_bits.proofs.union.Statement.{statement}
@@ -21,7 +21,7 @@ abbrev μ-loop : tie.MeasureT-loop
 μ-loop zvec set₀ i₀ set i = length zvec - i
 
 loop-holds : tie.Need-loop-holds Inv-loop μ-loop
-unfolding listed
+unfolding zoomsIn
 loop-holds c = (omega arith, sym (set-none (λ z. false) (suc lastZoom) (λ z h. refl)))
 
 shared-slice-read-pow2 : tie.Need-shared-slice-read-pow2 Inv-loop μ-loop

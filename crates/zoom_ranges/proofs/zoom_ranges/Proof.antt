@@ -6,7 +6,7 @@ use lib.ListN.{length}
 use borrow.Author.Needs.{needs}
 use borrow.Author.Tests.{lt-ltb, le-ltb}
 use Rattle.zoom_bits.specs.Bits.{lastZoom}
-use Rattle.zoom_bits.specs.Laws.{those-of-set, filled}
+use Rattle.zoom_bits.specs.Laws.{those-of-set, zooms-filled}
 use Rattle.zoom_ranges.specs.Ranges.{runLows, runStarts, runEnds}
 use Rattle.zoom_ranges.specs.Runs.{run-count}
 use Rattle.zoom_ranges.proofs.zoom_ranges.Statement.{statement}
@@ -60,10 +60,10 @@ returns-3 c =
       le-ltb (length (a .lows .now)) (length (runLows (a .zset))) (omega arith),
       le-ltb (length (a .highs .now)) (length (runLows (a .zset))) (omega arith),
       n,
-      filled (runStarts (a .zset)) (a .lows .now)
+      zooms-filled (runStarts (a .zset)) (a .lows .now)
           (c .before .before .before .before .before .before .before .before .before .before .before .before .run-starts .ensures)
           (c .before .before .before .before .before .before .before .fill .ensures),
-      filled (runEnds (a .zset)) (a .highs .now) (c .before .before .before .before .run-ends .ensures) (c .before .before .fill2 .ensures),
+      zooms-filled (runEnds (a .zset)) (a .highs .now) (c .before .before .before .before .run-ends .ensures) (c .before .before .fill2 .ensures),
     )
 
 pub zoom-ranges-spec : {M : Type 1} → statement M
