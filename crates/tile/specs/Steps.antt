@@ -6,8 +6,8 @@ use lib.Dec.{eqb}
 use Rattle.errors.specs.Answer.{Answer, answer, _when_, _else_}
 use Rattle.tile.specs.OnMap.{tileAt, noTile, tileRefusal}
 use Rattle.tile.specs.declared.Tile.{Tile}
-use Rattle.tile.specs.declared.Place.{Place}
-use Rattle.tile.specs.declared.Place.the-variants.{At, Off}
+use Rattle.tile.specs.declared.Coordinate.{Coordinate}
+use Rattle.tile.specs.declared.Coordinate.the-variants.{At, Off}
 use Rattle.tile.specs.declared.Step.{Step}
 use Rattle.tile.specs.declared.Step.the-variants.{Back, Stay, On}
 
@@ -58,20 +58,20 @@ abbrev pub downRightOf : Tile → Answer Tile
 downRightOf t = stepOf Back On t
 
 -- both at once, as the code takes them
-abbrev pub steppedTo : Step → ℕ → ℕ → Place
+abbrev pub steppedTo : Step → ℕ → ℕ → Coordinate
 steppedTo s n end = cond (leaves s n end) Off (At (stepped s n))
 
-abbrev pub placedAt : Place → Place → ℕ → Answer Tile
-placedAt (At x) (At y) z = answer 0 noTile (tileAt x y z)
-placedAt (At x) Off z = answer 2 noTile noTile
-placedAt Off y z = answer 2 noTile noTile
+abbrev pub tileOn : Coordinate → Coordinate → ℕ → Answer Tile
+tileOn (At x) (At y) z = answer 0 noTile (tileAt x y z)
+tileOn (At x) Off z = answer 2 noTile noTile
+tileOn Off y z = answer 2 noTile noTile
 
 -- two steps that are taken one by one lead to the tile that `stepOf` names
-pub placed-step : (a b : Step) (x y z : ℕ) → placedAt (steppedTo a x (2 ^ z)) (steppedTo b y (2 ^ z)) z
+pub tile-on-steps : (a b : Step) (x y z : ℕ) → tileOn (steppedTo a x (2 ^ z)) (steppedTo b y (2 ^ z)) z
     ≡ answer (2 when (leaves a x (2 ^ z) || leaves b y (2 ^ z))) noTile (tileAt (stepped a x) (stepped b y) z)
-placed-step a b x y z = pick (leaves a x (2 ^ z)) (leaves b y (2 ^ z))
+tile-on-steps a b x y z = pick (leaves a x (2 ^ z)) (leaves b y (2 ^ z))
   where
-    pick : (p q : Bool) → placedAt (cond p Off (At (stepped a x))) (cond q Off (At (stepped b y))) z
+    pick : (p q : Bool) → tileOn (cond p Off (At (stepped a x))) (cond q Off (At (stepped b y))) z
         ≡ answer (2 when (p || q)) noTile (tileAt (stepped a x) (stepped b y) z)
     pick true q = refl
     pick false true = refl

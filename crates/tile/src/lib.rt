@@ -9,7 +9,7 @@ ghost use Rattle.errors.specs.Cases.{checkNumber, u32Case};
 ghost use Rattle.tile.specs.Option.{unwrapOr};
 ghost use Rattle.tile.specs.OnMap.{tileRefusal, tileCase, sideOf, tryNew};
 ghost use Rattle.tile.specs.Order.{byNumber, tileOrder};
-ghost use Rattle.tile.specs.Steps.{flipOf, stepOf, steppedTo, placedAt};
+ghost use Rattle.tile.specs.Steps.{flipOf, stepOf, steppedTo, tileOn};
 ghost use Rattle.tile.specs.Steps.{upOf, downOf, leftTileOf, rightOf, upLeftOf, upRightOf, downLeftOf, downRightOf};
 
 // x grows east, y south.
@@ -125,7 +125,7 @@ impl Tile {
             U32Answer::Number(end) => {
                 let x = stepped(across, self.x, end);
                 let y = stepped(along, self.y, end);
-                placed(x, y, self.z)
+                tile_on(x, y, self.z)
             }
             U32Answer::Refused(why) => TileAnswer::Refused(why),
         }
@@ -189,36 +189,42 @@ impl Tile {
 }
 
 // Where a step along an axis leads.
-enum Place {
+enum Coordinate {
     At(u32),
     Off,
 }
 
 // A step along an axis of `end` numbers.
-fn stepped(step: Step, n: u32, end: u32) -> Place
+fn stepped(step: Step, n: u32, end: u32) -> Coordinate
     requires { ⌜ n < end ⌝ }
     ensures { λ r. ⌜ r ≡ steppedTo step n end ⌝ }
 {
     match step {
-        Step::Back => { if n == 0 { Place::Off } else { Place::At(n - 1) } }
-        Step::Stay => Place::At(n),
+        Step::Back => {
+            if n == 0 {
+                Coordinate::Off
+            } else {
+                Coordinate::At(n - 1)
+            }
+        }
+        Step::Stay => Coordinate::At(n),
         Step::On => {
             if n + 1 == end {
-                Place::Off
+                Coordinate::Off
             } else {
-                Place::At(n + 1)
+                Coordinate::At(n + 1)
             }
         }
     }
 }
 
-fn placed(x: Place, y: Place, z: u8) -> TileAnswer
-    ensures { λ r. ⌜ tileCase r ≡ placedAt x y z ⌝ }
+fn tile_on(x: Coordinate, y: Coordinate, z: u8) -> TileAnswer
+    ensures { λ r. ⌜ tileCase r ≡ tileOn x y z ⌝ }
 {
-    let Place::At(column) = x else {
+    let Coordinate::At(column) = x else {
         return TileAnswer::Refused(Refusal::OffMap);
     };
-    let Place::At(row) = y else {
+    let Coordinate::At(row) = y else {
         return TileAnswer::Refused(Refusal::OffMap);
     };
     TileAnswer::Found(Tile {

@@ -78,8 +78,8 @@ pub record HoldsTile (b : TileZBox) (t : Tile) : Type 0 where
   pub north : b .miny ≤ t .y
   pub south : t .y ≤ b .maxy
 
-abbrev pub containsPlaced : TileZBox → ℕ → ℕ → ℕ → Answer Bool
-containsPlaced b x y z = answer (boxRefusal b) false (inBox b x y z)
+abbrev pub containsOnMap : TileZBox → ℕ → ℕ → ℕ → Answer Bool
+containsOnMap b x y z = answer (boxRefusal b) false (inBox b x y z)
 
 -- the lowest number over both: 1 for either zoom, then 2 for the tile, then 10 for the box
 abbrev pub containsRefusal : TileZBox → ℕ → ℕ → ℕ → ℕ

@@ -11,7 +11,7 @@ ghost use Prim.Native.Nat.{_+_, _≤_};
 ghost use Rattle.constants.specs.Limits.{maxZoom};
 ghost use Rattle.errors.specs.Cases.{checkNumber, boolCase, u32Case, u64Case};
 ghost use Rattle.tile_zbox.specs.Box.{IsBox, wrongRun, wrongEdges, boxRefusal, boxCase, extentCase, newOf, fromTileOf, inRange};
-ghost use Rattle.tile_zbox.specs.Box.{inBox, containsPlaced, containsOf, flipped, boxFlipOf, zoomedBy, zoomInOf, zoomDepthOf};
+ghost use Rattle.tile_zbox.specs.Box.{inBox, containsOnMap, containsOf, flipped, boxFlipOf, zoomedBy, zoomInOf, zoomDepthOf};
 ghost use Rattle.tile_zbox.specs.Box.{boxLength, lengthOf, dxOf, dyOf, dxdyOf, dimensionsOf};
 
 pub struct TileZBox {
@@ -103,14 +103,14 @@ impl TileZBox {
             return BoolAnswer::Refused(Refusal::Zoom);
         }
         match tile::check(x, y, z) {
-            Check::Fine => self.contains_placed(x, y, z),
+            Check::Fine => self.contains_on_map(x, y, z),
             Check::Refused(why) => BoolAnswer::Refused(why),
         }
     }
 
     // The same for a tile of the map.
-    fn contains_placed(self, x: u32, y: u32, z: u8) -> BoolAnswer
-        ensures { λ r. ⌜ boolCase r ≡ containsPlaced self x y z ⌝ }
+    fn contains_on_map(self, x: u32, y: u32, z: u8) -> BoolAnswer
+        ensures { λ r. ⌜ boolCase r ≡ containsOnMap self x y z ⌝ }
     {
         match self.check() {
             Check::Fine => BoolAnswer::Told(self.holds(x, y, z)),

@@ -90,10 +90,10 @@ pub fn kth(range: TileZBox, k: u64) -> Tile
     let columns = (range.maxx - range.minx + 1) as u64;
     let across = k % columns;
     let down = k / columns;
-    placed(range, across, down)
+    tile_from(range, across, down)
 }
 
-fn placed(range: TileZBox, across: u64, down: u64) -> Tile
+fn tile_from(range: TileZBox, across: u64, down: u64) -> Tile
     requires { ⌜ IsBox range ⌝ }
     requires { ⌜ (across < columnsOf range) × (down < rowsOf range) ⌝ }
     ensures { λ r. ⌜ r ≡ tileAt (range .minx + across) (range .miny + down) (range .zoom) ⌝ }

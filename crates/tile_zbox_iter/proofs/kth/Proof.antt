@@ -23,16 +23,16 @@ rem-across c = search needs
 div-down : tie.Need-div-down
 div-down c = search needs
 
-placed-requires : tie.Need-placed-requires
-placed-requires c κs =
+tile-from-requires : tie.Need-tile-from-requires
+tile-from-requires c κs =
     let a = c .before .args in
     (c .before .pre .0, (column-below (a .range) (a .k), row-below (a .range) (a .k) (c .before .pre .1)))
 
 returns : tie.Need-returns
 unfolding kthTile
-returns c = c .placed .ensures
+returns c = c .tile-from .ensures
 
 pub kth-spec : {M : Type 1} → statement M
 kth-spec =
     tie.close
-    (tie.spec sub-columns add-columns cast-columns rem-across div-down placed-requires returns)
+    (tie.spec sub-columns add-columns cast-columns rem-across div-down tile-from-requires returns)

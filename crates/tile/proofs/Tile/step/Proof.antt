@@ -4,7 +4,7 @@ use Prim.Native.Nat.{_^_}
 use native.Mathlib.Omega.{arith}
 use Rattle.errors.specs.Laws.{refused-answer, stands}
 use Rattle.tile.specs.OnMap.{OnMap, on-map-accepted, side-found, side-refused}
-use Rattle.tile.specs.Steps.{placed-step}
+use Rattle.tile.specs.Steps.{tile-on-steps}
 use borrow.Author.Needs.{needs}
 use Rattle.tile.proofs.Tile.step.Statement.{statement}
 use Rattle.tile.proofs.Tile.step.Tie as tie
@@ -27,8 +27,8 @@ stepped-requires c κs = omega (arith, known c .1, known c .0 .column)
 stepped-requires-2 : tie.Need-stepped-requires-2
 stepped-requires-2 c κs = omega (arith, known (c .before) .1, known (c .before) .0 .row)
 
-placed-requires : tie.Need-placed-requires
-placed-requires c κs = search needs
+tile-on-requires : tie.Need-tile-on-requires
+tile-on-requires c κs = search needs
 
 enum-known-why : tie.Need-enum-known-why
 enum-known-why c = search needs
@@ -37,7 +37,8 @@ returns : tie.Need-returns
 returns c =
     let k = known (c .before .before .before) in
     let a = c .before .before .before .before .before .before .before .args in
-    rw (on-map-accepted (k .0), c .placed .ensures, c .before .before .stepped .ensures, c .before .stepped2 .ensures, k .1) (placed-step (a .across) (a .along) (a .self .x) (a .self .y) (a .self .z))
+    rw (on-map-accepted (k .0), c .tile-on .ensures, c .before .before .stepped .ensures, c .before .stepped2 .ensures, k .1)
+    (tile-on-steps (a .across) (a .along) (a .self .x) (a .self .y) (a .self .z))
 
 returns-2 : tie.Need-returns-2
 returns-2 c = refused-answer (c .before .why .given .0 .0) _ _ (stands (c .before .why .given .0 .0) _ (side-refused _ _ _ (c .before .before .before .side .ensures) (c .before .why .given .1)))
@@ -50,7 +51,7 @@ step-spec =
     enum-known-end
     stepped-requires
     stepped-requires-2
-    placed-requires
+    tile-on-requires
     enum-known-why
     returns
     returns-2)

@@ -16,15 +16,15 @@ check-requires c κs = search needs
 enum-told : tie.Need-enum-told
 enum-told c = search needs
 
-contains-placed-requires : tie.Need-contains-placed-requires
-contains-placed-requires c κs = search needs
+contains-on-map-requires : tie.Need-contains-on-map-requires
+contains-on-map-requires c κs = search needs
 
 enum-known-why : tie.Need-enum-known-why
 enum-known-why c = search needs
 
 returns-2 : tie.Need-returns-2
 unfolding maxZoom
-returns-2 c = rw (le-ltb _ _ (c .before .before .before .before .if1 .left), (check-fine (c .before .enum-told .given .1) (c .before .before .before .check .ensures))) (c .contains-placed .ensures)
+returns-2 c = rw (le-ltb _ _ (c .before .before .before .before .if1 .left), (check-fine (c .before .enum-told .given .1) (c .before .before .before .check .ensures))) (c .contains-on-map .ensures)
 
 returns-3 : tie.Need-returns-3
 unfolding maxZoom
@@ -39,7 +39,7 @@ contains-tile-spec =
     returns
     check-requires
     enum-told
-    contains-placed-requires
+    contains-on-map-requires
     enum-known-why
     returns-2
     returns-3)

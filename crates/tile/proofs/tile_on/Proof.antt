@@ -1,7 +1,7 @@
--- `tile::placed` meets its contract: a case for each case of `placedAt`.
+-- `tile::tile_on` meets its contract: a case for each case of `tileOn`.
 use borrow.Author.Needs.{needs}
-use Rattle.tile.proofs.placed.Statement.{statement}
-use Rattle.tile.proofs.placed.Tie as tie
+use Rattle.tile.proofs.tile_on.Statement.{statement}
+use Rattle.tile.proofs.tile_on.Tie as tie
 
 enum-known-x : tie.Need-enum-known-x
 enum-known-x c = search needs
@@ -24,7 +24,7 @@ returns-2 c = rw (c .before .before .before .x .given .1, c .enum-told2 .given .
 returns-3 : tie.Need-returns-3
 returns-3 c = rw (c .before .before .before .before .x .given .1, c .before .y .given .1)
 
-pub placed-spec : {M : Type 1} → statement M
-placed-spec =
+pub tile-on-spec : {M : Type 1} → statement M
+tile-on-spec =
     tie.close
     (tie.spec enum-known-x enum-told returns enum-known-y enum-told-2 returns-2 returns-3)

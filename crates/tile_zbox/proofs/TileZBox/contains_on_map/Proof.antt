@@ -1,9 +1,9 @@
--- `tile_zbox::TileZBox::contains_placed` meets its contract: what `check` says decides.
+-- `tile_zbox::TileZBox::contains_on_map` meets its contract: what `check` says decides.
 use mathlib.Core.Path.{sym}
 use borrow.Author.Needs.{needs}
 use Rattle.errors.specs.Laws.{check-fine, check-refused, refused-answer}
-use Rattle.tile_zbox.proofs.TileZBox.contains_placed.Statement.{statement}
-use Rattle.tile_zbox.proofs.TileZBox.contains_placed.Tie as tie
+use Rattle.tile_zbox.proofs.TileZBox.contains_on_map.Statement.{statement}
+use Rattle.tile_zbox.proofs.TileZBox.contains_on_map.Tie as tie
 
 check-requires : tie.Need-check-requires
 check-requires c κs = search needs
@@ -23,6 +23,6 @@ returns c = rw ((check-fine (c .before .enum-told .given .1) (c .before .before 
 returns-2 : tie.Need-returns-2
 returns-2 c = refused-answer (c .before .why .given .0 .0) _ _ (sym (check-refused (c .before .why .given .1) (c .before .before .before .check .ensures)))
 
-pub contains-placed-spec : {M : Type 1} → statement M
-contains-placed-spec =
+pub contains-on-map-spec : {M : Type 1} → statement M
+contains-on-map-spec =
     tie.close (tie.spec check-requires enum-told holds-requires enum-known-why returns returns-2)
