@@ -8,9 +8,10 @@ use native.Mathlib.Decide.{decLe, decLt}
 use native.Mathlib.Omega.{arith}
 use lib.ListN.{take}
 use Rattle.constants.specs.Limits.{maxZoom}
-use Rattle.quadtree.specs.Laws.{morton-ancestor, morton-inj}
 use Rattle.quadtree.specs.Lists.{TileNumbers}
 use Rattle.quadtree.specs.Numbers.{OfMap, mortonOf, locationOf, locationTile}
+use Rattle.quadtree.specs.OneTile.{morton-inj}
+use Rattle.quadtree.specs.Tree.{morton-ancestor}
 use Rattle.quadtree.specs.Locations.{holds-morton, valid-tile, map-tile}
 use Rattle.quadtree.specs.declared.Key.the-variants.{Location}
 use Rattle.settle.specs.Settle.{Settles}

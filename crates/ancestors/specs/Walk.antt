@@ -8,9 +8,9 @@ use native.Mathlib.Omega.{arith}
 use lib.ListN.{length, take, getD, set, length-set}
 use lib.Seq.{getD-set-same, getD-set-other}
 use Rattle.bits.specs.Tests.{getD-in}
-use Rattle.quadtree.specs.Laws.{morton-tile}
 use Rattle.quadtree.specs.Lists.{TileNumbers}
 use Rattle.quadtree.specs.Numbers.{OfMap, mortonOf, mortonTile, locationOf, locationTile}
+use Rattle.quadtree.specs.OneTile.{morton-tile}
 use Rattle.sort.specs.At.{in-at, taken-at, at-taken, by-at, rising-at}
 use Rattle.settle.specs.Middle.{location-at}
 use Rattle.quadtree.specs.Locations.{endOf, low-pos, low-below, Lie, holding, held, before, after, lies, held-run, IsLocation, tiles}

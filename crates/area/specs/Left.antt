@@ -13,8 +13,8 @@ use Rattle.difference.specs.Ground.{Needed, left-covers, left-needed, left-vali
 use Rattle.difference.specs.Left.{leftOf, without}
 use Rattle.ground.specs.Cells.{first-cell, cell-on-map, full-cells}
 use Rattle.ground.specs.Largest.{Full, Cover}
-use Rattle.quadtree.specs.Laws.{location-tile}
 use Rattle.quadtree.specs.Numbers.{locationOf, locationTile}
+use Rattle.quadtree.specs.OneTile.{location-tile}
 use Rattle.tile.specs.OnMap.{tileAt}
 use Rattle.tile.specs.declared.Tile.{Tile}
 use Rattle.tile_list.specs.Laws.{named-by, names}

@@ -20,9 +20,9 @@ use Rattle.quadtree.specs.Lists.{entryKey}
 use Rattle.quadtree.specs.Locations.{Runs}
 use Rattle.quadtree.specs.Numbers.{locationTile}
 use Rattle.quadtree.specs.declared.Key.the-variants.{Location}
-use Rattle.settled.specs.Laws.{locations-named, settled-runs}
+use Rattle.settled.specs.ByLocations.{locations-named, settled-runs}
 use Rattle.settled.specs.Settled.{isSettled}
-use Rattle.sort.specs.Laws.{sort-length}
+use Rattle.sort.specs.Sorted.{sort-length}
 use Rattle.tile.specs.declared.Tile.{Tile}
 use Rattle.tile_list.specs.List.{same, named, entriesInOrder}
 use Rattle.tile_set.specs.Set.{parentTile}

@@ -14,7 +14,7 @@ use Rattle.ground.specs.Ground.{Settled}
 use Rattle.ground.specs.Largest.{Full, parents-not-full}
 use Rattle.ground.specs.Theorems.{settled-list-settled, ground-is-covered}
 use Rattle.ids.specs.Entry.{entryTile, isEntry, entry-accepted}
-use Rattle.settled.specs.Laws.{noneBeside, noneWith, apart-beside, beside-apart, four-with, with-four}
+use Rattle.settled.specs.EntryTests.{noneBeside, noneWith, apart-beside, beside-apart, four-with, with-four}
 use Rattle.settled.specs.Order.{is-before, before-is}
 use Rattle.settled.specs.Settled.{isBefore, strictlyInOrder, isSettled}
 use Rattle.tile.specs.Order.{Before}

@@ -1,7 +1,9 @@
 pub mod Children
-pub mod Laws
+pub mod Gathered
+pub mod Family
+pub mod ByQuarters
 pub mod Members
-pub mod Queue
-pub mod Rust
-pub mod Theorems
 pub mod Under
+pub mod Rust
+pub mod Queue
+pub mod Theorems

@@ -9,13 +9,13 @@ use lib.ListN.{length}
 use lib.Pow.{pow-mono}
 use borrow.Author.Tests.{lt-ltb, le-ltb}
 use Rattle.bits.specs.Checked.{Run, returns, fits, one-shifted}
-use Rattle.ids.specs.Laws.{power-start, start-next}
+use Rattle.ids.specs.Levels.{power-start, start-next}
 use Rattle.ids.specs.Rmid.{levelStart}
 use Rattle.tile.specs.OnMap.{tileAt}
 use Rattle.tile.specs.Rust.{To29, rustNew}
 use Rattle.tile.specs.declared.Tile.{Tile}
 use Rattle.children.specs.Children.{clockwise, zOrder, gather, descendants}
-use Rattle.children.specs.Laws.{descend-length}
+use Rattle.children.specs.Family.{descend-length}
 use Rattle.children.specs.Members.{flat-gather, gather-same}
 use Rattle.children.specs.Rust.{even, odd, rustChild, vec, rustClockwise, rustZOrder, rustQueue}
 use Rattle.children.specs.Under.{IsFamily, descend-under, under-small, descend-zoom}

@@ -18,7 +18,7 @@ use Rattle.tile.specs.Rust.{To29}
 use Rattle.tile.specs.declared.OptionU8.{OptionU8}
 use Rattle.tile.specs.declared.Tile.{Tile}
 use Rattle.children.specs.Children.{clockwise, zOrder, gather, descendants, childrenOf}
-use Rattle.children.specs.Laws.{descend-length}
+use Rattle.children.specs.Family.{descend-length}
 use Rattle.children.specs.Members.{once-at, once-map, gather-part}
 use Rattle.children.specs.Queue.{descend-deeper, FindsChildren, queue-all, new-made, rust-clockwise, rust-z-order}
 use Rattle.children.specs.Rust.{rustClockwise, rustZOrder, rustDescend, rustChildren, rustChildrenZOrder}

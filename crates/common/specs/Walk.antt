@@ -12,7 +12,7 @@ use Rattle.quadtree.specs.Numbers.{locationTile}
 use Rattle.sort.specs.At.{in-at, taken-at, at-taken}
 use Rattle.quadtree.specs.Locations.{lowOf, startOf, endOf, low-pos, low-below, Lie, holding, held, before, after, lies, held-run}
 use Rattle.quadtree.specs.Locations.{IsLocation, tiles, Runs}
-use Rattle.sort.specs.Laws.{eq-or-ne, le-or-lt}
+use Rattle.sort.specs.Compared.{eq-or-ne, le-or-lt}
 use Rattle.tile.specs.declared.Tile.{Tile}
 use Rattle.tile_list.specs.Laws.{named-by, names}
 use Rattle.tile_list.specs.List.{named}

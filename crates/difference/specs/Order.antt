@@ -7,8 +7,8 @@ use native.Mathlib.Omega.{arith}
 use lib.ListN.{length, getD}
 use Rattle.bits.specs.Tests.{anyOf}
 use Rattle.constants.specs.Limits.{maxZoom}
-use Rattle.quadtree.specs.Laws.{location-tile}
 use Rattle.quadtree.specs.Numbers.{OfMap, locationOf, locationTile}
+use Rattle.quadtree.specs.OneTile.{location-tile}
 use Rattle.quadtree.specs.Locations.{lowOf, startOf, endOf, low-below, low-child, location-child, end-small, IsLocation, tile-location}
 use Rattle.quadtree.specs.Locations.{tiles, Runs, valid-tile, map-tile}
 use Rattle.tile.specs.declared.Tile.{Tile}

@@ -9,8 +9,8 @@ use native.Mathlib.Numerals.{add-one}
 use native.Mathlib.Omega.{arith}
 use lib.ListN.{length, set}
 use Rattle.constants.specs.Limits.{maxZoom}
-use Rattle.quadtree.specs.Laws.{location-tile}
 use Rattle.quadtree.specs.Numbers.{OfMap, locationOf, locationTile}
+use Rattle.quadtree.specs.OneTile.{location-tile}
 use Rattle.quadtree.specs.Locations.{lowOf, startOf, endOf, low-child, location-child, tile-location, Room, room, tiles, valid-tile}
 use Rattle.quadtree.specs.Locations.{map-tile}
 use Rattle.tile.specs.declared.Tile.{Tile}

@@ -8,8 +8,8 @@ use native.Mathlib.Omega.{arith}
 use lib.ListN.{length}
 use Rattle.bits.specs.Tests.{in-map, into-map, getD-in}
 use Rattle.constants.specs.Limits.{maxZoom}
-use Rattle.quadtree.specs.Laws.{location-tile}
 use Rattle.quadtree.specs.Numbers.{OfMap, locationOf, locationTile}
+use Rattle.quadtree.specs.OneTile.{location-tile}
 use Rattle.sort.specs.At.{in-at}
 use Rattle.quadtree.specs.Locations.{lowOf, startOf, endOf, low-pos, low-below, held-run, lies, Lie, holding, held, before, after, tiles}
 use Rattle.quadtree.specs.Locations.{Runs}

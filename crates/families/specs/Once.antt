@@ -11,7 +11,7 @@ use borrow.Author.Tests.{ltb-true, ltb-false}
 use Rattle.bits.specs.Tests.{anyOf, in-any, any-in, into-map}
 use Rattle.quadtree.specs.Lists.{TileNumbers}
 use Rattle.quadtree.specs.Numbers.{mortonOf, mortonTile}
-use Rattle.sort.specs.Laws.{by-once-rising}
+use Rattle.sort.specs.Rising.{by-once-rising}
 use Rattle.sort.specs.Sort.{By, Rising, onceOf}
 use Rattle.tile.specs.declared.Tile.{Tile}
 use Rattle.tile_list.specs.Laws.{named-by, once-named, once-numbers}

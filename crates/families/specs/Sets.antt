@@ -11,7 +11,8 @@ use borrow.Author.Tests.{lt-ltb, le-ltb}
 use Rattle.constants.specs.Limits.{maxZoom}
 use Rattle.quadtree.specs.Lists.{TileNumbers}
 use Rattle.quadtree.specs.Numbers.{OfMap, mortonOf, mortonTile}
-use Rattle.quadtree.specs.Laws.{morton-child, morton-deeper, morton-shallower, morton-tile, four-codes}
+use Rattle.quadtree.specs.OneTile.{morton-tile}
+use Rattle.quadtree.specs.Tree.{morton-child, morton-deeper, morton-shallower, four-codes}
 use Rattle.sort.specs.Sort.{Rising}
 use Rattle.tile.specs.declared.Tile.{Tile}
 use Rattle.tile_list.specs.List.{named}

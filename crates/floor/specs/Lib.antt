@@ -1,3 +1,5 @@
 pub mod Floor
-pub mod Laws
+pub mod Entries
+pub mod Answer
+pub mod Cuts
 pub mod Theorems

@@ -12,9 +12,10 @@ use Rattle.bits.specs.Tests.{in-map, into-map}
 use Rattle.builds.specs.Refusals.{NoTiles}
 use Rattle.constants.specs.Limits.{maxZoom, at-least-29}
 use Rattle.errors.specs.Gives.{Gives, accepted-items}
+use Rattle.floor.specs.Answer.{accepted-exactly, all-entries, answer-is, count-is, answer-covers, answer-settled, at-0}
+use Rattle.floor.specs.Cuts.{cut-ordered, cut-length}
+use Rattle.floor.specs.Entries.{entry-of}
 use Rattle.floor.specs.Floor.{settledAt, AtFloor, cutDown, inListOrder, AboveTheFloor, LeftOut}
-use Rattle.floor.specs.Laws.{entry-of, accepted-exactly, all-entries, answer-is, count-is, answer-covers}
-use Rattle.floor.specs.Laws.{answer-settled, at-0, cut-ordered, cut-length}
 use Rattle.ground.specs.Floor.{list-covers, settled-list-settled-from, settled-list-same-from, settled-list-least-from}
 use Rattle.ground.specs.Ground.{ground, Same, settledListFrom}
 use Rattle.ids.specs.Entry.{entryOf, entryTile, entriesOf}

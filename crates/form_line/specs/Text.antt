@@ -19,7 +19,7 @@ use Rattle.form_line.specs.Line.{keyShown, entryShown, keysText, listTex
 use Rattle.form_line.specs.Stores.{Stored, one-stored, stored-behind, stored-same}
 use Rattle.ids.specs.Entry.{entryTile, entryRefusal, entryTileOf, isEntry, accepted-entry}
 use Rattle.quadkey.specs.Key.{keyFrom, keyOf}
-use Rattle.quadkey.specs.Laws.{key-length}
+use Rattle.quadkey.specs.Spelling.{key-length}
 use Rattle.tile.specs.OnMap.{noTile, tileCase}
 use Rattle.tile.specs.declared.Tile.{Tile}
 use Rattle.tile.specs.declared.TileAnswer.{TileAnswer}

@@ -9,7 +9,7 @@ use Rattle.errors.specs.Answer.{Answer, answer}
 use Rattle.tile.specs.OnMap.{OnMap, tileAt, noTile}
 use Rattle.tile.specs.declared.Tile.{Tile}
 use Rattle.ids.specs.Id.{idOf, idTile, idRefusal}
-use Rattle.ids.specs.Laws.{id-again, tile-again, id-accepted, accepted-id}
+use Rattle.ids.specs.IdBits.{id-again, tile-again, id-accepted, accepted-id}
 
 unfoldable pub entryOf : ℕ → ℕ → ℕ → ℕ
 entryOf x y z = idOf x y z

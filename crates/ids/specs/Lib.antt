@@ -1,6 +1,8 @@
-pub mod Entry
 pub mod Id
-pub mod Laws
 pub mod Rmid
+pub mod Powers
+pub mod IdBits
+pub mod Levels
+pub mod Entry
 pub mod Rust
 pub mod Theorems

@@ -43,8 +43,8 @@ abbrev pub rustOffsetZoom : ℕ → Run OffsetZoom
 rustOffsetZoom i = cond (eqb i 0) (returns (record { offset = 0; zoom = 0 })) (rustLoop 33 i 0 0)
 
 -- `rmid2xyz`: column and row are cut to 32 bits
-abbrev pub rustPlace : OffsetZoom → Run Tile
-rustPlace at = power 64 2 (at .zoom) then λ side. returns (tileAt (cut 32 (at .offset % side)) (cut 32 (at .offset / side)) (at .zoom))
+abbrev pub rustTileAt : OffsetZoom → Run Tile
+rustTileAt at = power 64 2 (at .zoom) then λ side. returns (tileAt (cut 32 (at .offset % side)) (cut 32 (at .offset / side)) (at .zoom))
 
 abbrev pub rustRmid2xyz : ℕ → Run Tile
-rustRmid2xyz i = cond (eqb i 0) (returns (tileAt 0 0 0)) (rustOffsetZoom i then rustPlace)
+rustRmid2xyz i = cond (eqb i 0) (returns (tileAt 0 0 0)) (rustOffsetZoom i then rustTileAt)

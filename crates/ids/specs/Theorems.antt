@@ -17,13 +17,13 @@ use Rattle.tile.specs.OnMap.{OnMap, tileAt, on-map-accepted}
 use Rattle.tile.specs.Rust.{To29, to-29-on-map, accepted}
 use Rattle.tile.specs.declared.Tile.{Tile}
 use Rattle.ids.specs.Id.{idOf, idTile, idRefusal, toIdOf, fromIdOf}
-use Rattle.ids.specs.Laws.{place-below, double-side, id-parts, id-again, tile-again, id-accepted, accepted-id}
-use Rattle.ids.specs.Laws.{InZoom, four-power, power-start, start-next, start-mono, start-small, rmid-small, rmid-below, rmid-fits}
-use Rattle.ids.specs.Laws.{rmid-holds}
-use Rattle.ids.specs.Laws.{zoom-holds, one-zoom, place-in-zoom, place-column, place-row}
+use Rattle.ids.specs.IdBits.{offset-below, id-parts, id-again, tile-again, id-accepted, accepted-id}
+use Rattle.ids.specs.Levels.{InZoom, power-start, start-next, start-mono, start-small, rmid-small, rmid-below, rmid-fits, rmid-holds}
+use Rattle.ids.specs.Levels.{zoom-holds, one-zoom, offset-in-zoom, offset-column, offset-row}
+use Rattle.ids.specs.Powers.{double-side, four-power}
 use Rattle.ids.specs.Rmid.{levelStart, rmid, rmidLimit, rmidRefusal, zoomUpTo, zoomOf, offsetOf}
 use Rattle.ids.specs.Rmid.{toRmidOf, offsetZoomOf, fromRmidOf}
-use Rattle.ids.specs.Rust.{rustToId, rustFromId, rustXyz2rmid, rustLoop, rustOffsetZoom, rustPlace, rustRmid2xyz}
+use Rattle.ids.specs.Rust.{rustToId, rustFromId, rustXyz2rmid, rustLoop, rustOffsetZoom, rustTileAt, rustRmid2xyz}
 use Rattle.ids.specs.declared.OffsetZoom.{OffsetZoom}
 
 -- a number that is some tile's
@@ -67,7 +67,7 @@ rmid-of-the-tile n e =
     let o = offsetOf n in
     let d = div-add-mod' o (2 ^ z) in (
       tileAt (o % 2 ^ z) (o / 2 ^ z) z,
-      record { zoom = h .1; column = place-column o z; row = place-row o z (place-in-zoom n z (h .0)) },
+      record { zoom = h .1; column = offset-column o z; row = offset-row o z (offset-in-zoom n z (h .0)) },
       omega (arith, d, h .0 .from),
       rw e,
     )
@@ -77,7 +77,7 @@ pub rust-to-id : (x y z : ℕ) → To29 x y z → read accepted (rustToId x y z)
 unfolding idOf
 rust-to-id x y z m =
     let p = 2 ^ (z + 1) in
-    let s = place-below x y z (m .zoom) (m .column) (m .row) in
+    let s = offset-below x y z (m .zoom) (m .column) (m .row) in
     let d : 2 * 2 ^ z ≡ p = double-side z in
     let b : p < 2 ^ 64 = pow-lt {j = 64} (omega (arith, m .zoom)) in
     rw (
@@ -220,7 +220,7 @@ unfolding levelStart
 offset-found n h = let a = in-zoom-29 n h in by-the-loop n ∙ loop-finds 33 n 0 (zoomOf n) (a .1) (a .2) (omega arith) (omega (arith, a .2))
 
 -- and so for `rmid2xyz`
-from-the-offset : (n : ℕ) → rustRmid2xyz n ≡ rustOffsetZoom n then rustPlace
+from-the-offset : (n : ℕ) → rustRmid2xyz n ≡ rustOffsetZoom n then rustTileAt
 unfolding within
 from-the-offset zero = refl
 from-the-offset (suc n) = rw (ne-eqb (suc n) 0 (λ e. omega arith))
@@ -235,6 +235,6 @@ rust-rmid2xyz n h =
     let z = zoomOf n in
     let o = offsetOf n in
     let side : 2 ^ z ≤ 2 ^ 29 = pow-mono {j = 29} (a .2) in
-    let c : o % 2 ^ z < 2 ^ 32 = omega (arith, place-column o z) in
-    let r : o / 2 ^ z < 2 ^ 32 = omega (arith, place-row o z (place-in-zoom n z (a .1))) in
+    let c : o % 2 ^ z < 2 ^ 32 = omega (arith, offset-column o z) in
+    let r : o / 2 ^ z < 2 ^ 32 = omega (arith, offset-row o z (offset-in-zoom n z (a .1))) in
     rw (from-the-offset n, offset-found n h, fits 64 (2 ^ z) (omega arith), mod-eq-of-lt c, mod-eq-of-lt r, a .0)

@@ -7,9 +7,10 @@ use lib.ListN.{length, take}
 use lib.Seq.{length-take-le}
 use Rattle.tile.specs.declared.Tile.{Tile}
 use Rattle.quadkey.specs.Key.{keyOf, allDigits, tileOf}
-use Rattle.quadkey.specs.Laws.{key-again}
+use Rattle.quadkey.specs.Spelling.{key-again}
 use Rattle.key_parts.specs.Parts.{sharedLength}
-use Rattle.key_parts.specs.Laws.{digits-take, spelled-take, shared-within, shared-within-second, shared-same, shared-longest}
+use Rattle.key_parts.specs.Leading.{digits-take, spelled-take}
+use Rattle.key_parts.specs.Shared.{shared-within, shared-within-second, shared-same, shared-longest}
 
 -- s is t or one of its ancestors: t's x and y, divided by as many twos as zooms lie between, remainders dropped, are its x and y
 pub record Ancestor (s t : Tile) : Type 0 where

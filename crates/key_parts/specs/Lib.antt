@@ -1,4 +1,5 @@
 pub mod Parts
-pub mod Laws
+pub mod Leading
+pub mod Shared
 pub mod Ancestor
 pub mod Theorems

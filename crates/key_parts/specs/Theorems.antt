@@ -10,9 +10,10 @@ use borrow.Author.Tests.{lt-ltb}
 use Rattle.tile.specs.OnMap.{tileAt}
 use Rattle.tile.specs.declared.Tile.{Tile}
 use Rattle.quadkey.specs.Key.{keyOf, columnOf, rowOf, tileOf, keyRefusal}
-use Rattle.quadkey.specs.Laws.{accepted-key}
+use Rattle.quadkey.specs.Refusals.{accepted-key}
 use Rattle.key_parts.specs.Parts.{ancestorRefusal, sharedLength, sharedRefusal}
-use Rattle.key_parts.specs.Laws.{key-above, ancestor-accepted, shared-within, shared-accepted}
+use Rattle.key_parts.specs.Leading.{key-above, ancestor-accepted}
+use Rattle.key_parts.specs.Shared.{shared-within, shared-accepted}
 use Rattle.key_parts.specs.Ancestor.{Ancestor, above-part, shared-above-first, shared-above-second, shared-deepest}
 
 -- the key of a parent is the key without its last digit

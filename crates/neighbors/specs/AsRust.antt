@@ -25,7 +25,7 @@ use Rattle.neighbors.specs.Neighbors.{around, aroundWrapped, stepOnMap, 
 use Rattle.neighbors.specs.declared.Seam.the-variants.{Cut}
 use Rattle.neighbors.specs.Rust.{neighborsArm, remEuclid, asU32, plusI64, wrapStep, wrapSteps, wrapTiles, armBy, tilesAt, ifOnMap}
 use Rattle.neighbors.specs.Rust.{struck}
-use Rattle.neighbors.specs.Laws.{below-one, near-off-row}
+use Rattle.neighbors.specs.MapEdge.{below-one, near-off-row}
 
 -- where all tiles are on the map, none is struck out
 pub AllOnMap : List Tile → Type 0

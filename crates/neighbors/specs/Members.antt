@@ -18,7 +18,7 @@ use Rattle.neighbors.specs.Neighbors.{around, stepOnMap, near, nearOf, o
 use Rattle.bits.specs.Tests.{and-parts, allOf, all-in}
 use Rattle.neighbors.specs.declared.Seam.{Seam}
 use Rattle.neighbors.specs.declared.Seam.the-variants.{Cut, Wrapped}
-use Rattle.neighbors.specs.Laws.{near-on-map}
+use Rattle.neighbors.specs.MapEdge.{near-on-map}
 use Rattle.neighbors.specs.AsRust.{near-at}
 
 holds : ℕ → List ℕ → Bool

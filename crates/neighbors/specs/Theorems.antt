@@ -22,7 +22,7 @@ use Rattle.tile.specs.declared.Tile.{Tile}
 use Rattle.neighbors.specs.Neighbors.{around, near, nearOf, orderOf, neighborsOf}
 use Rattle.neighbors.specs.declared.Seam.{Seam}
 use Rattle.neighbors.specs.declared.Seam.the-variants.{Cut, Wrapped}
-use Rattle.neighbors.specs.Laws.{neighbors-deep}
+use Rattle.neighbors.specs.Squares.{neighbors-deep}
 use Rattle.neighbors.specs.AsRust.{none-struck, arm-struck, arm-within, arm-fits, wrapped-block}
 use Rattle.neighbors.specs.Members.{around-square, square-around, OnSquare, near-on-square, on-square-near, mem-on-map, square-back}
 use Rattle.neighbors.specs.Members.{square-self, around-once}

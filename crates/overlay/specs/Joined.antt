@@ -15,8 +15,8 @@ use Rattle.quadtree.specs.Locations.{Runs}
 use Rattle.quadtree.specs.Numbers.{locationOf, locationTile}
 use Rattle.settle.specs.Settle.{Settles}
 use Rattle.settle.specs.Simplify.{settled-listed}
-use Rattle.sort.specs.Laws.{sorted-by}
 use Rattle.sort.specs.Sort.{sortN, By}
+use Rattle.sort.specs.Sorted.{sorted-by}
 use Rattle.tile.specs.declared.Tile.{Tile}
 use Rattle.tile_list.specs.Finish.{Listed}
 use Rattle.tile_list.specs.Laws.{sort-numbers}

@@ -5,14 +5,16 @@ use Prim.Native.Nat.{ℕ}
 use native.Mathlib.Omega.{arith}
 use lib.ListN.{length, length-map}
 use Rattle.bits.specs.Tests.{in-map}
-use Rattle.quadtree.specs.Laws.{rank-inj}
 use Rattle.quadtree.specs.Lists.{rankEntry, TileNumbers}
 use Rattle.quadtree.specs.Locations.{low-pos, IsLocation, tiles, Runs}
 use Rattle.quadtree.specs.Numbers.{locationOf, locationTile, rankOf}
+use Rattle.quadtree.specs.OneTile.{rank-inj}
 use Rattle.quadtree.specs.declared.Key.the-variants.{Location}
 use Rattle.sort.specs.At.{in-at, rising-by-at}
-use Rattle.sort.specs.Laws.{sort-in, sort-length, sorted-by, in-once, once-in, once-rising, insert-rising, rising-sorted, rising-ext}
+use Rattle.sort.specs.EachOnce.{in-once, once-in}
+use Rattle.sort.specs.Rising.{once-rising, insert-rising, rising-sorted, rising-ext}
 use Rattle.sort.specs.Sort.{sortN, onceOf, Rising, By}
+use Rattle.sort.specs.Sorted.{sort-in, sort-length, sorted-by}
 use Rattle.tile_list.specs.Finish.{keys-finished}
 use Rattle.tile_list.specs.List.{named, entriesInOrder}
 

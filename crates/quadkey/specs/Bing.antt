@@ -10,7 +10,7 @@ use lib.ListN.{length}
 use lib.Pow.{high}
 use Rattle.bits.specs.Bits.{bit, bit-shift, bit-below}
 use Rattle.quadkey.specs.Key.{digitAt, keyFrom, keyOf}
-use Rattle.quadkey.specs.Laws.{key-length}
+use Rattle.quadkey.specs.Spelling.{key-length}
 
 -- the number that a list of digits is in base 4, the first digit on top
 unfoldable pub base4 : List ℕ → ℕ

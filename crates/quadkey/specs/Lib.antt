@@ -1,5 +1,8 @@
 pub mod Key
-pub mod Laws
+pub mod Bytes
+pub mod Refusals
+pub mod Spelling
+pub mod Flip
 pub mod Bing
 pub mod Rust
 pub mod Theorems

@@ -23,7 +23,7 @@ use Rattle.tile.specs.Rust.{To29, accepted, rustNew}
 use Rattle.tile.specs.declared.Tile.{Tile}
 use Rattle.quadkey.specs.Key.{digitAt, keyFrom, keyOf, isDigit, allDigits, keyRefusal, isKey, spelled, columnOf, rowOf, flipDigit}
 use Rattle.bits.specs.Tests.{and-parts}
-use Rattle.quadkey.specs.Laws.{by-digit, digit-bounds, digits-first}
+use Rattle.quadkey.specs.Bytes.{by-digit, digit-bounds, digits-first}
 
 -- `(n & mask) != 0`
 abbrev pub isSet : ℕ → ℕ → Bool

@@ -19,10 +19,10 @@ use Rattle.tile.specs.Steps.{flipOf}
 use Rattle.tile.specs.declared.Tile.{Tile}
 use Rattle.quadkey.specs.Key.{keyFrom, keyOf, isDigit, allDigits, keyRefusal, isKey, flipDigit}
 use Rattle.quadkey.specs.Key.{spelled, columnOf, rowOf, tileOf, keyTile}
-use Rattle.quadkey.specs.Laws.{key-length, key-digit, key-digits, key-again, key-flipped, flip-twice}
-use Rattle.quadkey.specs.Laws.{key-accepted, key-bad-byte, key-too-long, accepted-key, refused-long, refused-byte}
-use Rattle.quadkey.specs.Laws.{digit-bounds, digits-at, all-digits, some-bad, digits-bad, digit-out}
-use Rattle.quadkey.specs.Laws.{spelled-column, spelled-row, spelled-small}
+use Rattle.quadkey.specs.Bytes.{digit-bounds, digits-at, all-digits, some-bad, digits-bad, digit-out}
+use Rattle.quadkey.specs.Flip.{key-flipped, flip-twice}
+use Rattle.quadkey.specs.Refusals.{key-accepted, key-bad-byte, key-too-long, accepted-key, refused-long, refused-byte}
+use Rattle.quadkey.specs.Spelling.{key-length, key-digit, key-digits, key-again, spelled-column, spelled-row, spelled-small}
 use Rattle.quadkey.specs.Bing.{base4, base4-small, bytes-of-digits, even-bit, odd-bit}
 use Rattle.quadkey.specs.Rust as rust
 

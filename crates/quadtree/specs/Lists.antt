@@ -14,7 +14,7 @@ use Rattle.bits.specs.Tests.{not-true, not-false, allOf, all-in, getD-in}
 use Rattle.errors.specs.Memory.{front, front-length, front-more}
 use Rattle.ids.specs.Entry.{entryOf, entryTile, isEntry, accepted-entry}
 use Rattle.tile.specs.declared.Tile.{Tile}
-use Rattle.quadtree.specs.Laws.{morton-tile, location-tile}
+use Rattle.quadtree.specs.OneTile.{morton-tile, location-tile}
 use Rattle.quadtree.specs.declared.Key.{Key}
 use Rattle.quadtree.specs.declared.Key.the-variants.{Location, Morton}
 use Rattle.quadtree.specs.Numbers.{OfMap, mortonOf, locationOf, rankOf, mortonTile, locationTile, rankTile}

@@ -10,10 +10,11 @@ use lib.Count.{trailingZeros}
 use lib.ListN.{getD, length}
 use lib.Pow.{pow-pos, pow-add}
 use Rattle.constants.specs.Limits.{maxZoom, maxZoom-small}
-use Rattle.ids.specs.Laws.{four-side}
+use Rattle.ids.specs.Powers.{four-side}
 use Rattle.quadtree.specs.Numbers.{OfMap, mortonOf, locationOf, locationTile}
-use Rattle.quadtree.specs.Laws.{morton-child, morton-ancestor, morton-bounds, morton-inj, four-codes, location-zeros}
-use Rattle.quadtree.specs.Laws.{location-morton, location-tile}
+use Rattle.quadtree.specs.LowestBit.{location-zeros, location-morton}
+use Rattle.quadtree.specs.OneTile.{morton-inj, location-tile}
+use Rattle.quadtree.specs.Tree.{morton-child, morton-ancestor, morton-bounds, four-codes}
 use Rattle.tile.specs.declared.Tile.{Tile}
 use Rattle.tile_set.specs.Holds.{Valid, Holds, holds-refl, holds-level, ancestor-holds, holder-is-ancestor, child-held, child-of-parent}
 use Rattle.tile_set.specs.Holds.{valid-holder}

@@ -11,7 +11,7 @@ use lib.Seq.{getD-set-same, getD-set-other}
 use Rattle.bits.specs.Tests.{getD-in}
 use Rattle.quadtree.specs.Lists.{TileNumbers, number-at}
 use Rattle.quadtree.specs.Numbers.{OfMap, locationOf, locationTile}
-use Rattle.quadtree.specs.Laws.{location-tile}
+use Rattle.quadtree.specs.OneTile.{location-tile}
 use Rattle.sort.specs.Sort.{By}
 use Rattle.tile.specs.declared.Tile.{Tile}
 use Rattle.tile_list.specs.List.{named}

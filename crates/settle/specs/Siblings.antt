@@ -8,7 +8,7 @@ use native.Mathlib.Omega.{arith}
 use lib.ListN.{getD}
 use Rattle.constants.specs.Limits.{maxZoom}
 use Rattle.quadtree.specs.Numbers.{mortonOf, locationOf, locationTile}
-use Rattle.quadtree.specs.Laws.{location-tile}
+use Rattle.quadtree.specs.OneTile.{location-tile}
 use Rattle.tile.specs.declared.Tile.{Tile}
 use Rattle.quadtree.specs.Locations.{valid-tile, map-tile, lowOf, first-location, second-location, third-location, parent-location}
 use Rattle.quadtree.specs.Locations.{fourth-child}

@@ -2,4 +2,5 @@ pub mod Settled
 pub mod Answers
 pub mod Order
 pub mod Walk
-pub mod Laws
+pub mod EntryTests
+pub mod ByLocations

@@ -8,13 +8,15 @@ use native.Mathlib.Omega.{arith}
 use lib.ListN.{length, getD}
 use Rattle.bits.specs.Tests.{and-parts, allOf, all-in, in-all, getD-in, in-map}
 use Rattle.ids.specs.Entry.{entryTile, isEntry}
-use Rattle.quadtree.specs.Laws.{rank-small, rank-before, before-rank, location-inj}
 use Rattle.quadtree.specs.Lists.{entryKey}
 use Rattle.quadtree.specs.Numbers.{OfMap, rankOf}
+use Rattle.quadtree.specs.OneTile.{location-inj}
+use Rattle.quadtree.specs.RankOrder.{rank-small, rank-before, before-rank}
 use Rattle.quadtree.specs.declared.Key.the-variants.{Location}
 use Rattle.sort.specs.At.{in-at}
-use Rattle.sort.specs.Laws.{sort-in, insert-rising}
+use Rattle.sort.specs.Rising.{insert-rising}
 use Rattle.sort.specs.Sort.{sortN, Rising}
+use Rattle.sort.specs.Sorted.{sort-in}
 use Rattle.tile.specs.Order.{Before, tileOrder, less-if-before, before-if-less}
 use Rattle.tile.specs.declared.Ordering.{Ordering}
 use Rattle.tile.specs.declared.Ordering.the-variants.{Less, Equal, Greater}

@@ -1,5 +1,8 @@
 pub mod Sort
-pub mod Laws
+pub mod Compared
+pub mod Sorted
+pub mod EachOnce
+pub mod Rising
 pub mod Pass
 pub mod Theorems
 pub mod At

@@ -11,9 +11,12 @@ use Rattle.constants.specs.Limits.{maxZoom}
 use Rattle.ids.specs.Entry.{entriesOf}
 use Rattle.quadtree.specs.Lists.{sortKey, sortTile, key-tile, keyRank, rankEntry, TileNumbers}
 use Rattle.quadtree.specs.Numbers.{OfMap, rankOf, rankTile}
-use Rattle.quadtree.specs.Laws.{rank-tile, before-rank}
+use Rattle.quadtree.specs.OneTile.{rank-tile}
+use Rattle.quadtree.specs.RankOrder.{before-rank}
 use Rattle.sort.specs.Sort.{Rising, Once, sortN, onceOf}
-use Rattle.sort.specs.Laws.{in-sort, sort-in, in-once, once-in, once-rising}
+use Rattle.sort.specs.EachOnce.{in-once, once-in}
+use Rattle.sort.specs.Rising.{once-rising}
+use Rattle.sort.specs.Sorted.{in-sort, sort-in}
 use Rattle.quadtree.specs.declared.Key.{Key}
 use Rattle.tile.specs.Order.{Before}
 use Rattle.tile.specs.declared.Tile.{Tile}

@@ -14,8 +14,9 @@ use Rattle.ids.specs.Entry.{entryTile, isEntry, accepted-entry}
 use Rattle.quadtree.specs.Lists.{sortKey, sortTile, entryKey, key-tile, TileNumbers}
 use Rattle.quadtree.specs.Numbers.{OfMap}
 use Rattle.quadtree.specs.Locations.{valid-tile}
-use Rattle.sort.specs.Laws.{in-sort, sort-in, in-once, once-in}
+use Rattle.sort.specs.EachOnce.{in-once, once-in}
 use Rattle.sort.specs.Sort.{sortN, onceOf}
+use Rattle.sort.specs.Sorted.{in-sort, sort-in}
 use Rattle.quadtree.specs.declared.Key.{Key}
 use Rattle.tile.specs.Order.{tile-ext}
 use Rattle.tile.specs.declared.Tile.{Tile}

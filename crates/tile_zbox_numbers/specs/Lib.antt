@@ -1,4 +1,6 @@
 pub mod Boxes
-pub mod Laws
+pub mod Fives
+pub mod Accepted
+pub mod Lengths
 pub mod Theorems
 pub mod Rust

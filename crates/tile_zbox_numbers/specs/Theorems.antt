@@ -10,9 +10,10 @@ use Rattle.bits.specs.Tests.{anyOf, in-any}
 use Rattle.constants.specs.Limits.{maxZoom, maxBoxes}
 use Rattle.tile_zbox.specs.Box.{wrongEdges}
 use Rattle.tile_zbox.specs.declared.TileZBox.{TileZBox}
+use Rattle.tile_zbox_numbers.specs.Accepted.{any-of-empty, Fine, over-accepted, whole-refusal}
 use Rattle.tile_zbox_numbers.specs.Boxes.{deep, refusalOver, sumLengths, boxesLengthOf, boxesFrom, boxesOf, numbersLengthOf}
 use Rattle.tile_zbox_numbers.specs.Boxes.{numbersOf}
-use Rattle.tile_zbox_numbers.specs.Laws.{any-of-empty, Fine, over-accepted, whole-refusal, numbers-length}
+use Rattle.tile_zbox_numbers.specs.Fives.{numbers-length}
 
 -- five numbers for each box lead back to the boxes
 pub the-numbers-lead-back : (bs : List TileZBox) → boxesFrom (length bs) (numbersOf bs) ≡ bs

@@ -17,7 +17,8 @@ use Rattle.errors.specs.Turn.{firstOf, turnOf}
 use Rattle.tile_zbox.specs.Box.{noBox, wrongEdges, boxRefusal, boxLength, lengthOf}
 use Rattle.tile_zbox_numbers.specs.Boxes.{deep, refusalOver, sumLengths, boxesLengthOf}
 use Rattle.tile_zbox.specs.Laws.{accepted-box, length-small}
-use Rattle.tile_zbox_numbers.specs.Laws.{any-of-empty, accepted-over, fine-more, fine-fits, sum-step, sum-none}
+use Rattle.tile_zbox_numbers.specs.Accepted.{any-of-empty, accepted-over, fine-more}
+use Rattle.tile_zbox_numbers.specs.Lengths.{fine-fits, sum-step, sum-none}
 use Rattle.tile_zbox.specs.declared.TileZBox.{TileZBox}
 
 infixl 20 _plus_

@@ -12,9 +12,10 @@ use Rattle.tile_zbox.specs.declared.TileZBox.{TileZBox}
 use Rattle.tile_zbox_iter.specs.Cursor.{kthTile}
 use Rattle.tile_zbox_iter.specs.Theorems.{length-counts-the-tiles}
 use Rattle.tile_zbox_iter.specs.Tiles.{boxTiles, tile-of-box-at}
+use Rattle.tile_zbox_numbers.specs.Accepted.{Fine, fine-first, all-boxes-accepted, accepted-all-boxes}
 use Rattle.tile_zbox_numbers.specs.Boxes.{sumLengths, boxFrom, boxesFrom, boxesOf, numbersRefusal}
-use Rattle.tile_zbox_numbers.specs.Laws.{boxes-step, boxes-end, Fine, fine-first, next-box-zoom, all-boxes-accepted, accepted-all-boxes}
-use Rattle.tile_zbox_numbers.specs.Laws.{sum-step, sum-none}
+use Rattle.tile_zbox_numbers.specs.Fives.{boxes-step, boxes-end, next-box-zoom}
+use Rattle.tile_zbox_numbers.specs.Lengths.{sum-step, sum-none}
 use Rattle.tile_zboxes_iter.specs.Cursor.{tilesOfAll}
 
 -- there are as many as the sum says

@@ -9,8 +9,8 @@ use Rattle.tile_zbox.specs.Laws.{length-small}
 use Rattle.tile_zbox.specs.Rust.{boxes-compared}
 use Rattle.tile_zbox.specs.declared.TileZBox.{TileZBox}
 use Rattle.tile_zbox_iter.specs.RustNext.{stateAt, rustDrained, rust-drained}
+use Rattle.tile_zbox_numbers.specs.Accepted.{Fine, fine-first, accepted-all-boxes}
 use Rattle.tile_zbox_numbers.specs.Boxes.{boxesOf, numbersRefusal}
-use Rattle.tile_zbox_numbers.specs.Laws.{Fine, fine-first, accepted-all-boxes}
 use Rattle.tile_zboxes_iter.specs.Cursor.{boxesCursorAt, tilesOfAll}
 use Rattle.tile_zboxes_iter.specs.Laws.{as-many-as-the-sum}
 use Rattle.tile_zboxes_iter.specs.Theorems.{BoxesCursorGives, every-box-in-its-turn}

@@ -14,8 +14,8 @@ use Rattle.tile_zbox.specs.Box.{IsBox, boxLength}
 use Rattle.tile_zbox.specs.declared.TileZBox.{TileZBox}
 use Rattle.tile_zbox_iter.specs.Cursor as one
 use Rattle.tile_zbox_iter.specs.Tiles.{boxTiles, next-gives}
+use Rattle.tile_zbox_numbers.specs.Accepted.{Fine, fine-first, accepted-all-boxes}
 use Rattle.tile_zbox_numbers.specs.Boxes.{sumLengths, boxesOf, numbersRefusal, numbersLengthOf}
-use Rattle.tile_zbox_numbers.specs.Laws.{Fine, fine-first, accepted-all-boxes}
 use Rattle.tile_zboxes_iter.specs.Cursor.{boxesStepGiven, boxesStepEnded, noBoxesStep, boxesCursorAt, tilesOfAll, boxesNextOf}
 use Rattle.tile_zboxes_iter.specs.Laws.{as-many-as-the-sum, in-the-first}
 use Rattle.tile_zboxes_iter.specs.declared.TileZBoxesIterator.{TileZBoxesIterator}

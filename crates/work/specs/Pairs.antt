@@ -14,7 +14,7 @@ use Rattle.overlay.specs.Overlay.{TwoSets}
 use Rattle.quadtree.specs.Lists.{entryKey, Keyed, keys-refused, keys-fine}
 use Rattle.quadtree.specs.declared.Key.the-variants.{Location}
 use Rattle.settled.specs.Answers.{Tested}
-use Rattle.sort.specs.Laws.{sort-length}
+use Rattle.sort.specs.Sorted.{sort-length}
 use Rattle.work.specs.Steps.{KeyedBoth, InRuns, SettledBoth, Located}
 use Rattle.work.specs.Work.{locationsOf}
 

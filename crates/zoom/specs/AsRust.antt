@@ -9,9 +9,11 @@ use lib.Dec.{eqb, ltb, leb}
 use borrow.Author.Tests.{lt-ltb, le-ltb, lt-leb, ltb-false, eq-eqb, ne-eqb}
 use Rattle.bits.specs.Powers.{pow-within}
 use Rattle.zoom_bits.specs.Bits.{hasBit, those, setOf, between, fromTo, lastZoom, turnBit, downFrom, zoomsIn, anyDeeper, setOfZooms}
-use Rattle.zoom_bits.specs.Laws.{set-below, set-with, set-same, set-none, those-same, bit-of-set, bit-past, bit-half}
+use Rattle.zoom_bits.specs.Bitwise.{bit-past, bit-half}
 use Rattle.zoom_bits.specs.Listed.{or-none}
 use Rattle.zoom_bits.specs.Masks.{masked, masked-is}
+use Rattle.zoom_bits.specs.Passing.{those-same}
+use Rattle.zoom_bits.specs.Sets.{set-below, set-with, set-same, set-none, bit-of-set}
 use Rattle.zoom.specs.Listing.{listed-those}
 use Rattle.zoom.specs.Lists.{zooms-turned, zooms-straight}
 use Rattle.zoom.specs.Rust.{range, filter, reverseBits, zset2zvec, zset2zvecRev, fold, zvec2zset, zvec2zsetRev}

@@ -9,8 +9,10 @@ use native.Mathlib.Decide.{decLt}
 use lib.Dec.{eqb, ltb}
 use borrow.Author.Tests.{lt-ltb, le-ltb, eq-eqb, ne-eqb}
 use Rattle.zoom_bits.specs.Bits.{hasBit, those, lastZoom, turnBit, downFrom, zoomsIn, anyDeeper, setOfZooms}
-use Rattle.zoom_bits.specs.Laws.{set-below, set-of-bits, set-same, bit-of-set, bit-past, those-of-set}
+use Rattle.zoom_bits.specs.Bitwise.{bit-past}
 use Rattle.zoom_bits.specs.Listed.{listed-append}
+use Rattle.zoom_bits.specs.Passing.{those-of-set}
+use Rattle.zoom_bits.specs.Sets.{set-below, set-of-bits, set-same, bit-of-set}
 use Rattle.zoom.specs.Lists.{zooms-straight, listed-shallow}
 use Rattle.zoom.specs.Zooms.{zoomsOf, zoomsOfRev, setOfZoomsRev}
 

@@ -10,8 +10,9 @@ use borrow.Author.Tests.{ltb-false, ne-eqb}
 use Rattle.constants.specs.Limits.{maxEntries}
 use Rattle.errors.specs.Answer.{_when_, _else_}
 use Rattle.zoom_bits.specs.Bits.{hasBit, those, setOf, lastZoom, turnBit, downFrom, setOfZooms, zoomsIn, anyDeeper}
-use Rattle.zoom_bits.specs.Laws.{those-same, set-same, bit-of-whole}
 use Rattle.zoom_bits.specs.Listed.{or-none}
+use Rattle.zoom_bits.specs.Passing.{those-same}
+use Rattle.zoom_bits.specs.Sets.{set-same, bit-of-whole}
 use Rattle.zoom.specs.Zooms.{inSet, zoomsOf, zoomsOfRev, zoomsRefusal, setOfZoomsRev}
 
 pub zooms-turned : (zset : ℕ) → hasBit zset turnBit ≡ true → zoomsOf zset ≡ zoomsOfRev zset

@@ -11,9 +11,10 @@ use lib.Bits.{bitAnd}
 use borrow.Author.Tests.{le-ltb}
 use Rattle.bits.specs.Powers.{pow-within}
 use Rattle.zoom_bits.specs.Bits.{hasBit, those, setOf, between, fromTo, lastZoom, turnBit, zoomsIn, anyDeeper, setOfZooms}
-use Rattle.zoom_bits.specs.Laws.{set-of-one, set-of-span, set-same, bit-and}
+use Rattle.zoom_bits.specs.Bitwise.{bit-and}
 use Rattle.zoom_bits.specs.Masks.{mask}
 use Rattle.zoom_bits.specs.Rising.{those-rising}
+use Rattle.zoom_bits.specs.Sets.{set-of-one, set-of-span, set-same}
 use Rattle.zoom.specs.AsRust.{mirror, zooms-as-rust, turned-zooms, none-too-deep, set-as-rust, set-rev-as-rust, range-as-rust}
 use Rattle.zoom.specs.Listing.{set-back, list-back, rev-lower}
 use Rattle.zoom.specs.Rust.{zoomMaxXY, zset2zvec, zset2zvecRev, zvec2zset, zvec2zsetRev, bitandZoom, all}

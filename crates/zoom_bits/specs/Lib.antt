@@ -1,5 +1,7 @@
 pub mod Bits
-pub mod Laws
+pub mod Bitwise
+pub mod Sets
+pub mod Passing
 pub mod Listed
 pub mod Masks
 pub mod Rising

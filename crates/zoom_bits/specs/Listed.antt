@@ -10,7 +10,7 @@ use lib.Seq.{drop-cons, take-suc}
 use lib.Bits.{bitOr}
 use borrow.Author.Tests.{ltb-false}
 use Rattle.zoom_bits.specs.Bits.{lastZoom, zoomsIn, anyDeeper, setOfZooms}
-use Rattle.zoom_bits.specs.Laws.{set-with, set-same}
+use Rattle.zoom_bits.specs.Sets.{set-with, set-same}
 
 pub listed-append : (l m : List ℕ) (z : ℕ) → zoomsIn (l ++ m) z ≡ zoomsIn l z || zoomsIn m z
 unfolding zoomsIn

@@ -11,7 +11,8 @@ use lib.Pow.{pow-lt, pow-pos}
 use borrow.Author.Tests.{eq-eqb, ne-eqb}
 use Rattle.bits.specs.Powers.{pow-within}
 use Rattle.zoom_bits.specs.Bits.{hasBit}
-use Rattle.zoom_bits.specs.Laws.{same-bits, bit-past, bit-and, bit-of-power}
+use Rattle.zoom_bits.specs.Bitwise.{bit-past, bit-and}
+use Rattle.zoom_bits.specs.Sets.{same-bits, bit-of-power}
 
 -- 1 << i
 abbrev pub mask : ℕ → ℕ

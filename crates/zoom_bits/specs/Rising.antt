@@ -8,7 +8,7 @@ use native.Mathlib.Decide.{decLt}
 use lib.ListN.{length, getD, length-append, List·getD-append}
 use lib.Seq.{getD-at}
 use Rattle.zoom_bits.specs.Bits.{those}
-use Rattle.zoom_bits.specs.Laws.{those-with, those-without}
+use Rattle.zoom_bits.specs.Passing.{those-with, those-without}
 
 -- a list with one number more at its end
 module _ (l : List ℕ) (n : ℕ) where

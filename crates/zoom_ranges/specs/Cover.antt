@@ -9,7 +9,7 @@ use native.Mathlib.Numerals.{add-one}
 use lib.ListN.{length, getD}
 use borrow.Author.Tests.{le-leb, lt-leb}
 use Rattle.zoom_bits.specs.Bits.{those, between, lastZoom, fromTo}
-use Rattle.zoom_bits.specs.Laws.{those-same, those-with, those-without, those-none}
+use Rattle.zoom_bits.specs.Passing.{those-same, those-with, those-without, those-none}
 use Rattle.zoom_bits.specs.Rising.{those-below}
 use Rattle.zoom_ranges.specs.Ranges.{inRun, runStarts, runEnds, runLows, runHighs}
 use Rattle.zoom_ranges.specs.Runs.{past, open-run, start-zero, starts-here, starts-inside, starts-outside, ends-here, ends-inside}

@@ -11,8 +11,9 @@ use lib.ListN.{length, length-append}
 use lib.Bits.{bitAnd, bitXor, and-le-l, and-le-r}
 use borrow.Author.Tests.{lt-leb, eq-eqb, eqb-true}
 use Rattle.zoom_bits.specs.Bits.{hasBit, those, setOf, between, lastZoom}
-use Rattle.zoom_bits.specs.Laws.{those-with, those-without, set-below, same-bits, bit-of-set, bit-of-whole, bit-and, bit-xor, bit-half}
-use Rattle.zoom_bits.specs.Laws.{bit-double, bit-even}
+use Rattle.zoom_bits.specs.Bitwise.{bit-and, bit-xor, bit-half, bit-double, bit-even}
+use Rattle.zoom_bits.specs.Passing.{those-with, those-without}
+use Rattle.zoom_bits.specs.Sets.{set-below, same-bits, bit-of-set, bit-of-whole}
 use Rattle.zoom_ranges.specs.Ranges.{runLows, runHighs, firstRun, lastRun, run-end, inRun, runStarts, runEnds}
 
 pub past-last-run : (zset i : ℕ) → lastRun < i → inRun zset i ≡ false

@@ -1,7 +1,7 @@
 -- `ancestor`: a Morton code has two bits for each zoom.
 use Prim.Native.Nat.{_+_}
 use borrow.Author.Needs.{needs}
-use Rattle.ids.specs.Laws.{four-side}
+use Rattle.ids.specs.Powers.{four-side}
 use Rattle.ancestors.proofs.ancestor.Statement.{statement}
 use Rattle.ancestors.proofs.ancestor.Tie as tie
 

@@ -5,7 +5,7 @@ use borrow.Author.Needs.{needs}
 use lib.Seq.{length-take-le}
 use Rattle.constants.specs.Limits.{maxZoom-small}
 use Rattle.quadtree.specs.Numbers.{locationOf}
-use Rattle.sort.specs.Laws.{sorted-by}
+use Rattle.sort.specs.Sorted.{sorted-by}
 use Rattle.tile_list.specs.Laws.{sort-numbers}
 use Rattle.ancestors.specs.Laws.{settled-tops}
 use Rattle.ancestors.specs.Simplify.{sort-uncovers}

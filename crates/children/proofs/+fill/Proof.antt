@@ -7,8 +7,8 @@ use Rattle.children.specs.Children.{familyOf, descendants}
 use Rattle.ids.specs.Entry.{entriesOf}
 use Rattle.constants.specs.Limits.{maxZoom-small}
 use Rattle.tile.specs.OnMap.{on-map-small}
-use Rattle.children.specs.Laws.{childEntries, quarters, quarters-none, Quarter, in-quarters, quarters-kept, quarter-written, quarters-done}
-use Rattle.children.specs.Laws.{one-place, quarter-part, turn-small, family-place, child-on-map}
+use Rattle.children.specs.ByQuarters.{quarters, quarters-none, Quarter, in-quarters, quarters-kept, quarter-written, quarters-done, one-place, quarter-part}
+use Rattle.children.specs.Family.{childEntries, turn-small, family-place, child-on-map}
 use Prim.Native.Nat.{ℕ, suc, _-_, _+_, _*_, _/_, _%_, _^_, _≤_, _<_}
 use borrow.Author.Needs.{needs}
 use borrow.Fn.Kinds.{In}

@@ -17,7 +17,7 @@ use Rattle.tile.specs.Option.{unwrapOr}
 use Rattle.tile.specs.OnMap.{tileRefusal, accepted-on-map}
 use Rattle.children.specs.Children.{familyOf, descendants}
 use Rattle.ids.specs.Entry.{entriesOf}
-use Rattle.children.specs.Laws.{child-too-deep, children-length}
+use Rattle.children.specs.Family.{child-too-deep, children-length}
 use Rattle.children.proofs.descend.Statement.{statement}
 use Rattle.children.proofs.descend.Tie as tie
 

@@ -3,7 +3,7 @@ use mathlib.Core.Path.{_∙_}
 use Prim.Native.Nat.{_*_}
 use native.Mathlib.Omega.{arith}
 use borrow.Author.Needs.{needs}
-use Rattle.ids.specs.Laws.{wide-side, four-side}
+use Rattle.ids.specs.Powers.{wide-side, four-side}
 use Rattle.children.proofs.places.Statement.{statement}
 use Rattle.children.proofs.places.Tie as tie
 

@@ -6,7 +6,7 @@ use borrow.Author.Tests.{lt-ltb, le-ltb}
 use borrow.Author.Needs.{needs}
 use Rattle.constants.specs.Limits.{maxZoom, maxZoom-small}
 use Rattle.families.specs.Join.{firstMorton}
-use Rattle.ids.specs.Laws.{wide-side, four-side}
+use Rattle.ids.specs.Powers.{wide-side, four-side}
 use Rattle.families.proofs.first_morton.Statement.{statement}
 use Rattle.families.proofs.first_morton.Tie as tie
 

@@ -1,7 +1,7 @@
 -- `merged`: Morton codes in order, one pass, and the set as a list.
 use Rattle.families.specs.Pass.{passed-merges}
 use Rattle.quadtree.specs.Numbers.{mortonOf}
-use Rattle.sort.specs.Laws.{sorted-by}
+use Rattle.sort.specs.Sorted.{sorted-by}
 use Rattle.tile_list.specs.Laws.{sort-numbers}
 use borrow.Author.Needs.{needs}
 use Rattle.families.proofs.merged.Statement.{statement}

@@ -1,7 +1,7 @@
 -- `sorted_pass` sorts, and passes.
 use Rattle.families.specs.Pass.{sort-passed}
 use Rattle.quadtree.specs.Numbers.{mortonOf}
-use Rattle.sort.specs.Laws.{sorted-by}
+use Rattle.sort.specs.Sorted.{sorted-by}
 use Rattle.tile_list.specs.Laws.{sort-numbers}
 use borrow.Author.Needs.{needs}
 use Rattle.families.proofs.sorted_pass.Statement.{statement}

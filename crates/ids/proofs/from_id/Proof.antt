@@ -7,7 +7,8 @@ use borrow.Author.Needs.{needs}
 use Rattle.bits.specs.Powers.{high-part-below, low-part}
 use Rattle.constants.specs.Limits.{maxZoom, maxZoom-small}
 use Rattle.ids.specs.Id.{idTile}
-use Rattle.ids.specs.Laws.{wide-side, id-accepted, id-refused}
+use Rattle.ids.specs.IdBits.{id-accepted, id-refused}
+use Rattle.ids.specs.Powers.{wide-side}
 use Rattle.ids.proofs.from_id.Statement.{statement}
 use Rattle.ids.proofs.from_id.Tie as tie
 
@@ -31,8 +32,8 @@ side c = c .wide-pow2 .ensures ∙ wide-side _ (omega arith)
 small : (c : tie.After-wide-pow2) → c .wide-pow2 .result ≤ 2 ^ 30
 small c = rw (side c) (pow-mono {j = 30} (omega (arith, maxZoom-small)))
 
-place-fits : (c : tie.After-wide-pow2) → number c / 32 < 2 ^ 64
-place-fits c = omega arith
+offset-fits : (c : tie.After-wide-pow2) → number c / 32 < 2 ^ 64
+offset-fits c = omega arith
 
 add-y : tie.Need-add-y
 add-y c = search needs
@@ -53,11 +54,11 @@ shl-x : tie.Need-shl-x
 shl-x c = search needs
 
 sub-x : tie.Need-sub-x
-sub-x c = high-part-below (number c / 32) _ 64 (place-fits c)
+sub-x c = high-part-below (number c / 32) _ 64 (offset-fits c)
 
 -- what is left of the place without its row is its column
 column : (c : tie.After-wide-pow2) → number c / 32 - number c / 32 / 2 ^ (number c % 32 + 1) * 2 ^ (number c % 32 + 1) % 2 ^ 64 ≡ number c / 32 % 2 ^ (number c % 32 + 1)
-column c = low-part (number c / 32) (number c % 32 + 1) 64 (place-fits c)
+column c = low-part (number c / 32) (number c % 32 + 1) 64 (offset-fits c)
 
 returns-2 : tie.Need-returns-2
 unfolding idTile

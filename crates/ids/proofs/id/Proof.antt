@@ -4,7 +4,8 @@ use Prim.Native.Nat.{_+_, _*_, _^_, _<_}
 use native.Mathlib.Omega.{arith}
 use borrow.Author.Needs.{needs}
 use Rattle.ids.specs.Id.{idOf}
-use Rattle.ids.specs.Laws.{id-zoom, place-small, wide-side}
+use Rattle.ids.specs.IdBits.{id-zoom, offset-small}
+use Rattle.ids.specs.Powers.{wide-side}
 use Rattle.ids.proofs.id.Statement.{statement}
 use Rattle.ids.proofs.id.Tie as tie
 
@@ -18,7 +19,7 @@ side : (c : tie.After-wide-pow2) → c .wide-pow2 .result ≡ 2 ^ (c .before .ar
 side c = c .wide-pow2 .ensures ∙ wide-side (c .before .args .z + 1) (omega (arith, id-zoom, c .before .pre .zoom))
 
 small : (c : tie.After-wide-pow2) → c .wide-pow2 .result * c .before .args .y + c .before .args .x < 2 ^ 59
-small c = rw (side c) (place-small _ _ _ (c .before .pre))
+small c = rw (side c) (offset-small _ _ _ (c .before .pre))
 
 mul-result : tie.Need-mul-result
 mul-result c = omega (arith, small c)

@@ -4,7 +4,7 @@ use native.Mathlib.Omega.{arith}
 use borrow.Author.Tests.{le-leb, lt-leb}
 use borrow.Author.Needs.{needs}
 use Rattle.constants.specs.Limits.{maxZoom, maxZoom-small}
-use Rattle.ids.specs.Laws.{InZoom, zoom-holds}
+use Rattle.ids.specs.Levels.{InZoom, zoom-holds}
 use Rattle.ids.specs.Rmid.{levelStart, zoomOf}
 use Rattle.ids.proofs.int_2_offset_zoom.Statement.{statement}
 use Rattle.ids.proofs.int_2_offset_zoom.Tie as tie

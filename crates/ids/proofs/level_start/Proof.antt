@@ -3,7 +3,7 @@ use Prim.Native.Nat.{_*_}
 use native.Mathlib.Omega.{arith}
 use lib.Pow.{pow-pos}
 use borrow.Author.Needs.{needs}
-use Rattle.ids.specs.Laws.{wide-side, four-side}
+use Rattle.ids.specs.Powers.{wide-side, four-side}
 use Rattle.ids.specs.Rmid.{levelStart}
 use Rattle.ids.proofs.level_start.Statement.{statement}
 use Rattle.ids.proofs.level_start.Tie as tie

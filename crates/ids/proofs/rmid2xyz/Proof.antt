@@ -6,7 +6,8 @@ use lib.Pow.{pow-pos, pow-mono}
 use borrow.Author.Needs.{needs}
 use Rattle.constants.specs.Limits.{maxZoom, maxZoom-small}
 use Rattle.errors.specs.Laws.{answer-found, answer-refused, refused-answer}
-use Rattle.ids.specs.Laws.{wide-side, rmid-holds, place-in-zoom, place-column, place-row}
+use Rattle.ids.specs.Levels.{rmid-holds, offset-in-zoom, offset-column, offset-row}
+use Rattle.ids.specs.Powers.{wide-side}
 use Rattle.ids.specs.Rmid.{offsetOf, zoomOf, rmidRefusal, offsetZoomCase}
 use Rattle.ids.specs.declared.OffsetZoom.{OffsetZoom}
 use Rattle.ids.proofs.rmid2xyz.Statement.{statement}
@@ -37,7 +38,7 @@ zoom-small : (c : tie.After-known-told) → place c .zoom ≤ maxZoom
 zoom-small c = rw (taken c .1) (rmid-holds (number c) (taken c .0) .1)
 
 within : (c : tie.After-known-told) → place c .offset < 2 ^ (place c .zoom) * 2 ^ (place c .zoom)
-within c = rw (taken c .1) (place-in-zoom _ _ (rmid-holds (number c) (taken c .0) .0))
+within c = rw (taken c .1) (offset-in-zoom _ _ (rmid-holds (number c) (taken c .0) .0))
 
 side : (c : tie.After-wide-pow2) → c .wide-pow2 .result ≡ 2 ^ (place (c .before) .zoom)
 side c = c .wide-pow2 .ensures ∙ wide-side _ (omega (arith, zoom-small (c .before), maxZoom-small))
@@ -52,7 +53,7 @@ cast-t8 : tie.Need-cast-t8
 cast-t8 c =
     let p = c .before in
     let found = place (p .before) in
-    rw (side p) (omega (arith, small p, side p, place-column (found .offset) (found .zoom)))
+    rw (side p) (omega (arith, small p, side p, offset-column (found .offset) (found .zoom)))
 
 div-t9 : tie.Need-div-t9
 div-t9 c = omega (arith, side (c .before .before), pow-pos (place (c .before .before .before) .zoom))
@@ -61,7 +62,7 @@ cast-t10 : tie.Need-cast-t10
 cast-t10 c =
     let p = c .before .before in
     let found = place (p .before) in
-    rw (side p) (omega (arith, small p, side p, place-row (found .offset) (found .zoom) (within (p .before))))
+    rw (side p) (omega (arith, small p, side p, offset-row (found .offset) (found .zoom) (within (p .before))))
 
 enum-known-why : tie.Need-enum-known-why
 enum-known-why c = search needs

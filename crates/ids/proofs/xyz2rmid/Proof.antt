@@ -6,7 +6,8 @@ use borrow.Author.Needs.{needs}
 use Rattle.constants.specs.Limits.{maxZoom-small}
 use Rattle.errors.specs.Laws.{check-fine, check-refused, refused-answer}
 use Rattle.tile.specs.OnMap.{OnMap, accepted-on-map}
-use Rattle.ids.specs.Laws.{wide-side, rmid-fits}
+use Rattle.ids.specs.Levels.{rmid-fits}
+use Rattle.ids.specs.Powers.{wide-side}
 use Rattle.ids.proofs.xyz2rmid.Statement.{statement}
 use Rattle.ids.proofs.xyz2rmid.Tie as tie
 

@@ -4,7 +4,7 @@ use Prim.Native.Nat.{_≤_}
 use native.Mathlib.Omega.{arith}
 use borrow.Author.Needs.{needs}
 use Rattle.constants.specs.Limits.{maxZoom, maxZoom-small}
-use Rattle.ids.specs.Laws.{zoom-here, zoom-above}
+use Rattle.ids.specs.Levels.{zoom-here, zoom-above}
 use Rattle.ids.specs.Rmid.{zoomOf, zoomUpTo}
 use Rattle.ids.proofs.zoom_of.Statement.{statement}
 use Rattle.ids.proofs.zoom_of.Tie as tie

@@ -3,7 +3,7 @@ use mathlib.Core.Path.{sym}
 use lib.Seq.{length-take-le}
 use borrow.Author.Needs.{needs}
 use Rattle.errors.specs.Laws.{check-fine, check-refused}
-use Rattle.key_parts.specs.Laws.{ancestor-within, part-handed, part-refused}
+use Rattle.key_parts.specs.Leading.{ancestor-within, part-handed, part-refused}
 use Rattle.key_parts.proofs.ancestor_key.Statement.{statement}
 use Rattle.key_parts.proofs.ancestor_key.Tie as tie
 

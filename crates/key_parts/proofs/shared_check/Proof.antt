@@ -3,7 +3,7 @@ use mathlib.Core.Path.{sym, _∙_}
 use borrow.Author.Needs.{needs}
 use Rattle.constants.specs.Limits.{maxZoom}
 use Rattle.errors.specs.Laws.{check-fine, check-refused, never-zero}
-use Rattle.key_parts.specs.Laws.{shared-long, shared-first, shared-second}
+use Rattle.key_parts.specs.Shared.{shared-long, shared-first, shared-second}
 use Rattle.key_parts.proofs.shared_check.Statement.{statement}
 use Rattle.key_parts.proofs.shared_check.Tie as tie
 

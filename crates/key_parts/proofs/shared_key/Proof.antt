@@ -3,7 +3,8 @@ use mathlib.Core.Path.{sym}
 use lib.Seq.{length-take-le}
 use borrow.Author.Needs.{needs}
 use Rattle.errors.specs.Laws.{check-fine, check-refused}
-use Rattle.key_parts.specs.Laws.{shared-within, part-handed, part-refused}
+use Rattle.key_parts.specs.Leading.{part-handed, part-refused}
+use Rattle.key_parts.specs.Shared.{shared-within}
 use Rattle.key_parts.proofs.shared_key.Statement.{statement}
 use Rattle.key_parts.proofs.shared_key.Tie as tie
 

@@ -6,7 +6,7 @@ use lib.ListN.{length, drop}
 use borrow.Author.Tests.{ltb-true, ltb-false}
 use borrow.Author.Needs.{needs}
 use Rattle.key_parts.specs.Parts.{sharedLength}
-use Rattle.key_parts.specs.Laws.{shared-more, shared-stop, shared-end-first, shared-end-second}
+use Rattle.key_parts.specs.Shared.{shared-more, shared-stop, shared-end-first, shared-end-second}
 use Rattle.key_parts.proofs.shared_length.Statement.{statement}
 use Rattle.key_parts.proofs.shared_length.Tie as tie
 

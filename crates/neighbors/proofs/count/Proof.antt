@@ -7,7 +7,7 @@ use lib.ListN.{length}
 use borrow.Author.Needs.{needs}
 use Rattle.children.specs.Children.{gather}
 use Rattle.tile.specs.declared.Tile.{Tile}
-use Rattle.neighbors.specs.Laws.{found, found-all, found-within, found-most, count-more}
+use Rattle.neighbors.specs.Squares.{found, found-all, found-within, found-most, count-more}
 use Rattle.neighbors.proofs.count.Statement.{statement}
 use Rattle.neighbors.proofs.count.Tie as tie
 

@@ -7,7 +7,9 @@ use lib.ListN.{length, drop}
 use borrow.Author.Needs.{needs}
 use Rattle.children.specs.Children.{gather}
 use Rattle.ids.specs.Entry.{entriesOf}
-use Rattle.neighbors.specs.Laws.{found, found-all, found-within, count-more, fill-more, fill-length, spot-on-map}
+use Rattle.neighbors.specs.MapEdge.{spot-on-map}
+use Rattle.neighbors.specs.Memory.{fill-more, fill-length}
+use Rattle.neighbors.specs.Squares.{found, found-all, found-within, count-more}
 use Rattle.neighbors.proofs.fill.Statement.{statement}
 use Rattle.neighbors.proofs.fill.Tie as tie
 

@@ -2,7 +2,8 @@
 use borrow.Author.Needs.{needs}
 use Rattle.errors.specs.Laws.{else-none}
 use Rattle.tile.specs.OnMap.{tileRefusal}
-use Rattle.neighbors.specs.Laws.{neighbors-deep, none-written}
+use Rattle.neighbors.specs.Memory.{none-written}
+use Rattle.neighbors.specs.Squares.{neighbors-deep}
 use Rattle.neighbors.proofs.near.Statement.{statement}
 use Rattle.neighbors.proofs.near.Tie as tie
 

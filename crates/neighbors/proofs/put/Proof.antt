@@ -7,7 +7,7 @@ use native.Mathlib.Omega.{arith}
 use lib.ListN.{length}
 use borrow.Author.Needs.{needs}
 use Rattle.neighbors.specs.Neighbors.{spotTiles, SpotOnMap}
-use Rattle.neighbors.specs.Laws.{paste-one, paste-none}
+use Rattle.neighbors.specs.Memory.{paste-one, paste-none}
 use Rattle.neighbors.specs.declared.Spot.{Spot}
 use Rattle.neighbors.specs.declared.Spot.the-variants.{At}
 use Rattle.neighbors.proofs.put.Statement.{statement}

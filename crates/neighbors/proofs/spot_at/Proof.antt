@@ -6,7 +6,8 @@ use native.Mathlib.Omega.{arith}
 use borrow.Author.Needs.{needs}
 use Rattle.tile.specs.OnMap.{on-map-small, side-small}
 use Rattle.neighbors.specs.Neighbors.{stepOnMap}
-use Rattle.neighbors.specs.Laws.{one-of-nine, near-off-row, below-one, past-side, within-side}
+use Rattle.neighbors.specs.MapEdge.{near-off-row, below-one, past-side, within-side}
+use Rattle.neighbors.specs.Squares.{one-of-nine}
 use Rattle.neighbors.proofs.spot_at.Statement.{statement}
 use Rattle.neighbors.proofs.spot_at.Tie as tie
 

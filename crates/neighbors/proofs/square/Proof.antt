@@ -2,7 +2,7 @@
 use native.Mathlib.Omega.{arith}
 use borrow.Author.Needs.{needs}
 use Rattle.neighbors.specs.declared.Seam.the-variants.{Cut, Wrapped}
-use Rattle.neighbors.specs.Laws.{one-of-nine}
+use Rattle.neighbors.specs.Squares.{one-of-nine}
 use Rattle.neighbors.proofs.square.Statement.{statement}
 use Rattle.neighbors.proofs.square.Tie as tie
 

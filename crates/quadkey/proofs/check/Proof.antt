@@ -6,8 +6,9 @@ use lib.ListN.{length, drop}
 use borrow.Author.Tests.{not-true, not-false}
 use borrow.Author.Needs.{needs}
 use Rattle.constants.specs.Limits.{maxZoom}
+use Rattle.quadkey.specs.Bytes.{rest-digit, rest-bad, rest-none}
 use Rattle.quadkey.specs.Key.{allDigits}
-use Rattle.quadkey.specs.Laws.{key-too-long, key-bad-byte, key-accepted, rest-digit, rest-bad, rest-none}
+use Rattle.quadkey.specs.Refusals.{key-too-long, key-bad-byte, key-accepted}
 use Rattle.quadkey.proofs.check.Statement.{statement}
 use Rattle.quadkey.proofs.check.Tie as tie
 

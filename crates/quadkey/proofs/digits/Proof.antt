@@ -5,7 +5,7 @@ use Rattle.errors.specs.Laws.{check-fine, check-refused}
 use Rattle.errors.specs.Memory.{written-refused, written-short, written-done}
 use Rattle.tile.specs.OnMap.{tileRefusal, accepted-on-map}
 use Rattle.quadkey.specs.Key.{keyFrom}
-use Rattle.quadkey.specs.Laws.{key-length}
+use Rattle.quadkey.specs.Spelling.{key-length}
 use Rattle.quadkey.proofs.digits.Statement.{statement}
 use Rattle.quadkey.proofs.digits.Tie as tie
 

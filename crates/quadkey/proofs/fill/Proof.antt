@@ -8,7 +8,7 @@ use Rattle.bits.specs.Bits.{bit-small}
 use Rattle.constants.specs.Limits.{maxZoom-small}
 use Rattle.errors.specs.Memory.{front, front-length}
 use Rattle.quadkey.specs.Key.{keyFrom}
-use Rattle.quadkey.specs.Laws.{key-length, fill-digit, key-filled}
+use Rattle.quadkey.specs.Spelling.{key-length, fill-digit, key-filled}
 use Rattle.quadkey.proofs.fill.Statement.{statement}
 use Rattle.quadkey.proofs.fill.Tie as tie
 

@@ -7,8 +7,9 @@ use lib.ListN.{length, length-map}
 use lib.Seq.{take-all}
 use borrow.Author.Needs.{needs}
 use Rattle.errors.specs.Memory.{front, front-length}
+use Rattle.quadkey.specs.Bytes.{digits-at}
+use Rattle.quadkey.specs.Flip.{fill-flipped}
 use Rattle.quadkey.specs.Key.{flipDigit}
-use Rattle.quadkey.specs.Laws.{digits-at, fill-flipped}
 use Rattle.quadkey.proofs.flip_all.Statement.{statement}
 use Rattle.quadkey.proofs.flip_all.Tie as tie
 

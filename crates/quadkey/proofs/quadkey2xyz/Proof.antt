@@ -9,9 +9,10 @@ use lib.Seq.{take-length}
 use borrow.Author.Tests.{not-true, not-false}
 use borrow.Author.Needs.{needs}
 use Rattle.constants.specs.Limits.{maxZoom}
+use Rattle.quadkey.specs.Bytes.{rest-digit, rest-bad, rest-none, digit-bounds}
 use Rattle.quadkey.specs.Key.{isDigit, allDigits, spelled}
-use Rattle.quadkey.specs.Laws.{key-too-long, key-bad-byte, key-accepted, rest-digit, rest-bad, rest-none}
-use Rattle.quadkey.specs.Laws.{digit-bounds, spelled-more, spelled-fits}
+use Rattle.quadkey.specs.Refusals.{key-too-long, key-bad-byte, key-accepted}
+use Rattle.quadkey.specs.Spelling.{spelled-more, spelled-fits}
 use Rattle.quadkey.proofs.quadkey2xyz.Statement.{statement}
 use Rattle.quadkey.proofs.quadkey2xyz.Tie as tie
 

@@ -6,7 +6,7 @@ use borrow.Author.Needs.{needs}
 use Rattle.errors.specs.Laws.{check-fine, check-refused}
 use Rattle.errors.specs.Memory.{written-refused, written-short, written-done}
 use Rattle.quadkey.specs.Key.{keyRefusal, flipDigit}
-use Rattle.quadkey.specs.Laws.{accepted-key}
+use Rattle.quadkey.specs.Refusals.{accepted-key}
 use Rattle.quadkey.proofs.quadkey_flipy.Statement.{statement}
 use Rattle.quadkey.proofs.quadkey_flipy.Tie as tie
 

@@ -8,9 +8,10 @@ use Rattle.constants.specs.Limits.{maxZoom-small}
 use Rattle.ids.specs.Entry.{entryOf}
 use Rattle.tile.specs.OnMap.{OnMap, on-map-small}
 use Rattle.tile.specs.declared.Tile.{Tile}
-use Rattle.quadtree.specs.Laws.{rank-small, rank-taken, rank-tile}
 use Rattle.quadtree.specs.Lists.{tileEntry, by-tile}
 use Rattle.quadtree.specs.Numbers.{rankTile}
+use Rattle.quadtree.specs.OneTile.{rank-tile}
+use Rattle.quadtree.specs.RankOrder.{rank-small, rank-taken}
 use Rattle.quadtree.proofs.entry_of_rank.Statement.{statement}
 use Rattle.quadtree.proofs.entry_of_rank.Tie as tie
 

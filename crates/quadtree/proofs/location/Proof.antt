@@ -5,7 +5,8 @@ use native.Mathlib.Nat.{mod-eq-of-lt}
 use native.Mathlib.Omega.{arith}
 use borrow.Author.Needs.{needs}
 use Rattle.constants.specs.Limits.{maxZoom}
-use Rattle.quadtree.specs.Laws.{morton-small, location-small, location-shift}
+use Rattle.quadtree.specs.LowestBit.{location-small, location-shift}
+use Rattle.quadtree.specs.Tree.{morton-small}
 use Rattle.quadtree.proofs.location.Statement.{statement}
 use Rattle.quadtree.proofs.location.Tie as tie
 

@@ -4,10 +4,10 @@ use Prim.Native.Nat.{_+_, _*_, _^_, _<_}
 use native.Mathlib.Omega.{arith}
 use borrow.Author.Needs.{needs}
 use Rattle.constants.specs.Limits.{maxZoom-small}
-use Rattle.ids.specs.Laws.{wide-side, four-side}
+use Rattle.ids.specs.Powers.{wide-side, four-side}
 use Rattle.quadtree.specs.Digits.{apart, morton-apart}
-use Rattle.quadtree.specs.Laws.{morton-small}
 use Rattle.quadtree.specs.Numbers.{mortonOf}
+use Rattle.quadtree.specs.Tree.{morton-small}
 use Rattle.quadtree.proofs.morton.Statement.{statement}
 use Rattle.quadtree.proofs.morton.Tie as tie
 

@@ -4,8 +4,8 @@ use Prim.Native.Nat.{ℕ, _<_}
 use native.Mathlib.Omega.{arith}
 use lib.Count.{trailingZeros}
 use Rattle.constants.specs.Limits.{maxZoom-small}
-use Rattle.quadtree.specs.Laws.{location-zeros, location-morton}
 use Rattle.quadtree.specs.Lists.{by-tile}
+use Rattle.quadtree.specs.LowestBit.{location-zeros, location-morton}
 use Rattle.quadtree.specs.Numbers.{locationTile}
 use Rattle.quadtree.proofs.rank_of_location.Statement.{statement}
 use Rattle.quadtree.proofs.rank_of_location.Tie as tie

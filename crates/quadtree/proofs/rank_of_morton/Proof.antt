@@ -3,9 +3,11 @@ use mathlib.Core.Path.{_≡_, _∙_}
 use Prim.Native.Nat.{ℕ, _+_, _*_, _/_, _%_, _^_, _<_}
 use native.Mathlib.Omega.{arith}
 use borrow.Author.Needs.{needs}
-use Rattle.quadtree.specs.Laws.{morton-small, morton-tile, rank-small, morton-rank}
 use Rattle.quadtree.specs.Lists.{by-tile}
 use Rattle.quadtree.specs.Numbers.{zoomIn, evenBits, mortonTile, rankOf}
+use Rattle.quadtree.specs.OneTile.{morton-tile}
+use Rattle.quadtree.specs.RankOrder.{rank-small, morton-rank}
+use Rattle.quadtree.specs.Tree.{morton-small}
 use Rattle.quadtree.proofs.rank_of_morton.Statement.{statement}
 use Rattle.quadtree.proofs.rank_of_morton.Tie as tie
 

@@ -1,7 +1,7 @@
 -- `simplified`: locations in order, one pass, and the set as a list.
 use Rattle.quadtree.specs.Numbers.{locationOf}
 use Rattle.settle.specs.Simplify.{settled-listed}
-use Rattle.sort.specs.Laws.{sorted-by}
+use Rattle.sort.specs.Sorted.{sorted-by}
 use Rattle.tile_list.specs.Laws.{sort-numbers}
 use borrow.Author.Needs.{needs}
 use Rattle.settle.proofs.simplified.Statement.{statement}

@@ -4,8 +4,8 @@ use Prim.Native.Nat.{_+_, _*_, _^_, _<_}
 use native.Mathlib.Omega.{arith}
 use borrow.Author.Needs.{needs}
 use Rattle.constants.specs.Limits.{maxZoom-small}
-use Rattle.ids.specs.Laws.{wide-side}
-use Rattle.quadtree.specs.Laws.{rank-parts, rank-small}
+use Rattle.ids.specs.Powers.{wide-side}
+use Rattle.quadtree.specs.RankOrder.{rank-parts, rank-small}
 use Rattle.tile.specs.OnMap.{side-small}
 use Rattle.settled.proofs.rank.Statement.{statement}
 use Rattle.settled.proofs.rank.Tie as tie

@@ -1,5 +1,5 @@
 -- `settled`: the list is in order, and its locations, in theirs, lie apart.
-use Rattle.settled.specs.Laws.{not-in-order, sorted-locations, tested}
+use Rattle.settled.specs.ByLocations.{not-in-order, sorted-locations, tested}
 use borrow.Author.Needs.{needs}
 use Rattle.settled.proofs.settled.Statement.{statement}
 use Rattle.settled.proofs.settled.Tie as tie

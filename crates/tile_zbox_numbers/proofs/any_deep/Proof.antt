@@ -7,8 +7,9 @@ use borrow.Author.Tests.{lt-ltb, le-ltb}
 use borrow.Author.Needs.{needs}
 use Rattle.bits.specs.Tests.{anyOf}
 use Rattle.constants.specs.Limits.{maxZoom}
+use Rattle.tile_zbox_numbers.specs.Accepted.{any-here, any-later, any-of-empty}
 use Rattle.tile_zbox_numbers.specs.Boxes.{deep, boxFrom, boxesFrom, boxesOf}
-use Rattle.tile_zbox_numbers.specs.Laws.{boxes-step, boxes-end, any-here, any-later, any-of-empty, next-box-zoom}
+use Rattle.tile_zbox_numbers.specs.Fives.{boxes-step, boxes-end, next-box-zoom}
 use Rattle.tile_zbox_numbers.proofs.any_deep.Statement.{statement}
 use Rattle.tile_zbox_numbers.proofs.any_deep.Tie as tie
 

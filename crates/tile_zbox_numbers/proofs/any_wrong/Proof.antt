@@ -7,8 +7,9 @@ use lib.ListN.{length, drop}
 use borrow.Author.Needs.{needs}
 use Rattle.bits.specs.Tests.{anyOf}
 use Rattle.tile_zbox.specs.Box.{wrongEdges}
+use Rattle.tile_zbox_numbers.specs.Accepted.{any-here, any-later, any-of-empty, none-of, zoom-at}
 use Rattle.tile_zbox_numbers.specs.Boxes.{deep, boxFrom, boxesFrom, boxesOf}
-use Rattle.tile_zbox_numbers.specs.Laws.{boxes-step, boxes-end, any-here, any-later, any-of-empty, none-of, zoom-at, next-box-zoom}
+use Rattle.tile_zbox_numbers.specs.Fives.{boxes-step, boxes-end, next-box-zoom}
 use Rattle.tile_zbox_numbers.proofs.any_wrong.Statement.{statement}
 use Rattle.tile_zbox_numbers.proofs.any_wrong.Tie as tie
 

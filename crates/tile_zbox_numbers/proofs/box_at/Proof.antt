@@ -2,7 +2,7 @@
 use native.Mathlib.Omega.{arith}
 use borrow.Author.Needs.{needs}
 use Rattle.constants.specs.Limits.{maxZoom-small}
-use Rattle.tile_zbox_numbers.specs.Laws.{box-at}
+use Rattle.tile_zbox_numbers.specs.Fives.{box-at}
 use Rattle.tile_zbox_numbers.proofs.box_at.Statement.{statement}
 use Rattle.tile_zbox_numbers.proofs.box_at.Tie as tie
 

@@ -5,8 +5,8 @@ use native.Mathlib.Omega.{arith}
 use borrow.Author.Needs.{needs}
 use Rattle.bits.specs.Tests.{anyOf}
 use Rattle.constants.specs.Limits.{maxBoxes}
+use Rattle.tile_zbox_numbers.specs.Accepted.{boxes-deep, boxes-many, boxes-over, boxes-wrong, all-boxes-accepted}
 use Rattle.tile_zbox_numbers.specs.Boxes.{deep, boxesOf}
-use Rattle.tile_zbox_numbers.specs.Laws.{boxes-deep, boxes-many, boxes-over, boxes-wrong, all-boxes-accepted}
 use Rattle.tile_zbox_numbers.proofs.boxes_check.Statement.{statement}
 use Rattle.tile_zbox_numbers.proofs.boxes_check.Tie as tie
 

@@ -3,8 +3,9 @@ use mathlib.Core.Path.{sym}
 use borrow.Author.Needs.{needs}
 use Rattle.errors.specs.Laws.{check-fine, check-refused}
 use Rattle.errors.specs.Memory.{written-refused, written-short, written-done}
+use Rattle.tile_zbox_numbers.specs.Accepted.{accepted-all-boxes}
 use Rattle.tile_zbox_numbers.specs.Boxes.{flippedNumbers}
-use Rattle.tile_zbox_numbers.specs.Laws.{accepted-all-boxes, flipped-length}
+use Rattle.tile_zbox_numbers.specs.Fives.{flipped-length}
 use Rattle.tile_zbox_numbers.proofs.boxes_flipy.Statement.{statement}
 use Rattle.tile_zbox_numbers.proofs.boxes_flipy.Tie as tie
 

@@ -8,8 +8,9 @@ use lib.Seq.{take-all}
 use borrow.Author.Needs.{needs}
 use Rattle.tile_zbox.specs.Box.{IsBox, flipped}
 use Rattle.errors.specs.Memory.{front, front-length}
+use Rattle.tile_zbox_numbers.specs.Accepted.{Fine, fine-first, zoom-at, accepted-all-boxes}
 use Rattle.tile_zbox_numbers.specs.Boxes.{boxFrom, boxesFrom, numbersOf, flippedNumbers}
-use Rattle.tile_zbox_numbers.specs.Laws.{Fine, boxes-step, fine-first, zoom-at, accepted-all-boxes, flipped-length, flip-on}
+use Rattle.tile_zbox_numbers.specs.Fives.{boxes-step, flipped-length, flip-on}
 use Rattle.tile_zbox_numbers.proofs.flip_all.Statement.{statement}
 use Rattle.tile_zbox_numbers.proofs.flip_all.Tie as tie
 

@@ -2,7 +2,7 @@
 use native.Mathlib.Omega.{arith}
 use lib.ListN.{length-set}
 use borrow.Author.Needs.{needs}
-use Rattle.tile_zbox_numbers.specs.Laws.{five-sets}
+use Rattle.tile_zbox_numbers.specs.Fives.{five-sets}
 use Rattle.tile_zbox_numbers.proofs.put.Statement.{statement}
 use Rattle.tile_zbox_numbers.proofs.put.Tie as tie
 

@@ -5,8 +5,10 @@ use native.Mathlib.Omega.{arith}
 use lib.ListN.{length, drop}
 use borrow.Author.Needs.{needs}
 use Rattle.tile_zbox.specs.Box.{IsBox, boxLength}
+use Rattle.tile_zbox_numbers.specs.Accepted.{Fine, fine-first, zoom-at, accepted-all-boxes}
 use Rattle.tile_zbox_numbers.specs.Boxes.{boxFrom, boxesFrom, boxesOf, sumLengths}
-use Rattle.tile_zbox_numbers.specs.Laws.{Fine, boxes-step, boxes-end, fine-first, zoom-at, accepted-all-boxes, sum-fits, sum-step, sum-none}
+use Rattle.tile_zbox_numbers.specs.Fives.{boxes-step, boxes-end}
+use Rattle.tile_zbox_numbers.specs.Lengths.{sum-fits, sum-step, sum-none}
 use Rattle.tile_zbox_numbers.proofs.sum.Statement.{statement}
 use Rattle.tile_zbox_numbers.proofs.sum.Tie as tie
 

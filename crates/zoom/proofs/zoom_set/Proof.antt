@@ -3,7 +3,7 @@ use Prim.Native.Nat.{suc}
 use borrow.Author.Needs.{needs}
 use borrow.Author.Tests.{lt-ltb, le-ltb, lt-leb, le-leb}
 use Rattle.zoom_bits.specs.Bits.{lastZoom}
-use Rattle.zoom_bits.specs.Laws.{set-of-empty-span}
+use Rattle.zoom_bits.specs.Sets.{set-of-empty-span}
 use Rattle.zoom.proofs.zoom_set.Statement.{statement}
 use Rattle.zoom.proofs.zoom_set.Tie as tie
 

@@ -5,7 +5,7 @@ use Prim.Native.Nat.{ℕ, suc}
 use borrow.Author.Needs.{needs}
 use Rattle.errors.specs.Answer.{written}
 use Rattle.zoom_bits.specs.Bits.{lastZoom, downFrom}
-use Rattle.zoom_bits.specs.Laws.{those-of-set}
+use Rattle.zoom_bits.specs.Passing.{those-of-set}
 use Rattle.zoom.specs.Lists.{zooms-turned, zooms-straight}
 use Rattle.zoom.proofs.zset2zvec.Statement.{statement}
 use Rattle.zoom.proofs.zset2zvec.Tie as tie

@@ -5,7 +5,7 @@ use Prim.Native.Nat.{ℕ, suc}
 use borrow.Author.Needs.{needs}
 use Rattle.errors.specs.Answer.{written}
 use Rattle.zoom_bits.specs.Bits.{lastZoom, downFrom}
-use Rattle.zoom_bits.specs.Laws.{those-of-set}
+use Rattle.zoom_bits.specs.Passing.{those-of-set}
 use Rattle.zoom.proofs.zset2zvec_rev.Statement.{statement}
 use Rattle.zoom.proofs.zset2zvec_rev.Tie as tie
 

@@ -5,7 +5,7 @@ use native.Mathlib.Nat.{mod-lt}
 use native.Mathlib.Omega.{arith}
 use lib.Count.{ones-le}
 use lib.Pow.{pow-pos}
-use Rattle.zoom_bits.specs.Laws.{count-bits}
+use Rattle.zoom_bits.specs.Passing.{count-bits}
 use Rattle.zoom_bits.proofs.count_zooms.Statement.{statement}
 use Rattle.zoom_bits.proofs.count_zooms.Tie as tie
 

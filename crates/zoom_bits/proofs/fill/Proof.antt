@@ -9,7 +9,7 @@ use native.Mathlib.Omega.{arith}
 use lib.ListN.{length, drop, length-set, length-append}
 use borrow.Author.Needs.{needs}
 use Rattle.zoom_bits.specs.Bits.{hasBit, those, lastZoom}
-use Rattle.zoom_bits.specs.Laws.{those-with, those-without, those-room, front-with}
+use Rattle.zoom_bits.specs.Passing.{those-with, those-without, those-room, front-with}
 use Rattle.zoom_bits.proofs.fill.Statement.{statement}
 use Rattle.zoom_bits.proofs.fill.Tie as tie
 

@@ -9,7 +9,7 @@ use native.Mathlib.Nat.{pow-suc}
 use borrow.Author.Needs.{needs}
 use Rattle.bits.specs.Powers.{pow-within}
 use Rattle.zoom_bits.specs.Bits.{setOf, downFrom}
-use Rattle.zoom_bits.specs.Laws.{set-below, set-more, set-no-more}
+use Rattle.zoom_bits.specs.Sets.{set-below, set-more, set-no-more}
 use Rattle.zoom_bits.proofs.reversed.Statement.{statement}
 use Rattle.zoom_bits.proofs.reversed.Tie as tie
 

@@ -6,7 +6,7 @@ use native.Mathlib.Omega.{arith}
 use borrow.Author.Needs.{needs}
 use Rattle.bits.specs.Powers.{pow-within}
 use Rattle.zoom_bits.specs.Bits.{setOf, between, lastZoom}
-use Rattle.zoom_bits.specs.Laws.{set-of-span}
+use Rattle.zoom_bits.specs.Sets.{set-of-span}
 use Rattle.zoom_bits.proofs.span.Statement.{statement}
 use Rattle.zoom_bits.proofs.span.Tie as tie
 

@@ -9,8 +9,8 @@ use lib.Seq.{take-all}
 use borrow.Author.Needs.{needs}
 use Rattle.bits.specs.Powers.{pow-within}
 use Rattle.zoom_bits.specs.Bits.{lastZoom, zoomsIn, setOfZooms}
-use Rattle.zoom_bits.specs.Laws.{set-none}
 use Rattle.zoom_bits.specs.Listed.{set-of-next, none-deeper}
+use Rattle.zoom_bits.specs.Sets.{set-none}
 use Rattle.zoom_bits.proofs.union.Statement.{statement}
 use Rattle.zoom_bits.proofs.union.Tie as tie
 

@@ -6,7 +6,7 @@ use lib.ListN.{length}
 use borrow.Author.Needs.{needs}
 use borrow.Author.Tests.{lt-ltb, le-ltb}
 use Rattle.zoom_bits.specs.Bits.{lastZoom}
-use Rattle.zoom_bits.specs.Laws.{those-of-set, zooms-filled}
+use Rattle.zoom_bits.specs.Passing.{those-of-set, zooms-filled}
 use Rattle.zoom_ranges.specs.Ranges.{runLows, runStarts, runEnds}
 use Rattle.zoom_ranges.specs.Runs.{run-count}
 use Rattle.zoom_ranges.proofs.zoom_ranges.Statement.{statement}

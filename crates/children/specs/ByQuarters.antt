@@ -1,83 +1,17 @@
--- Laws of descendants: how many there are, and how a list of them fills up quarter by quarter.
+-- How a list of descendants fills up quarter by quarter.
 use mathlib.Core.Path.{_≡_, refl, sym, ap, _∙_}
-use mathlib.Core.Bool.{Bool, true, false}
-use mathlib.Core.List.{List, [], _∷_, _++_, map-append, append-assoc, append-nil}
-use Prim.Native.Nat.{ℕ, zero, suc, _+_, _-_, _*_, _/_, _%_, _^_, _≤_, _<_}
-use native.Mathlib.Nat.{pow-suc, mul-comm, mul-le-mul-right}
+use mathlib.Core.List.{List, [], _∷_, _++_, append-assoc, append-nil}
+use Prim.Native.Nat.{ℕ, zero, suc, _+_, _-_, _*_, _/_, _^_, _≤_, _<_}
+use native.Mathlib.Nat.{pow-suc, mul-le-mul-right}
 use native.Mathlib.Numerals.{add-one}
 use native.Mathlib.Omega.{arith}
-use lib.Dec.{ltb}
-use lib.ListN.{length, take, drop, getD, set, length-append, length-map, length-drop}
+use lib.ListN.{length, take, drop, getD, set, length-append, length-drop}
 use lib.Seq.{take-suc, take-at, drop-at, drop-drop, length-take-le, take-length, drop-length}
 use borrow.Rule.Slice.PartMut.{putMid}
-use Rattle.constants.specs.Limits.{maxZoom}
-use Rattle.errors.specs.Answer.{_when_, _else_}
-use Rattle.tile.specs.OnMap.{OnMap, tileRefusal, too-deep}
-use Rattle.tile.specs.declared.Tile.{Tile}
 use Rattle.children.specs.Children.{familyOf, gather, descendants}
+use Rattle.children.specs.Family.{family-four, childEntries, child-length, children-gathered}
+use Rattle.children.specs.Gathered.{gather-append, gather-one, gather-length}
 use Rattle.ids.specs.Entry.{entriesOf}
-
-pub gather-append : {A : Type 0} (f : ℕ → List A) (a b : List ℕ) → gather f (a ++ b) ≡ gather f a ++ gather f b
-unfolding gather
-gather-append f [] b = refl
-gather-append f (q ∷ a) b = rw (gather-append f a b, append-assoc)
-
-gather-one : (g : ℕ → List ℕ) (q : ℕ) → gather g (q ∷ []) ≡ g q
-unfolding gather
-gather-one g q = append-nil (g q)
-
-pub gather-length : {A : Type 0} (f : ℕ → List A) (n : ℕ) (qs : List ℕ) → ((q : ℕ) → length (f q) ≡ n)
-    → length (gather f qs) ≡ length qs * n
-unfolding gather
-gather-length f n [] h = omega arith
-gather-length f n (q ∷ qs) h = rw (length-append, h q, gather-length f n qs h) (omega arith)
-
-pub entries-gather : (f : ℕ → List Tile) (qs : List ℕ) → entriesOf (gather f qs) ≡ gather (λ q. entriesOf (f q)) qs
-unfolding gather
-entries-gather f [] = refl
-entries-gather f (q ∷ qs) = map-append _ (f q) (gather f qs) ∙ ap (λ (l : List ℕ). entriesOf (f q) ++ l) (entries-gather f qs)
-
-pub descend-length : (family : List ℕ) → length family ≡ 4 → (d x y z : ℕ) → length (descendants family d x y z) ≡ 4 ^ d
-unfolding descendants
-descend-length family e zero x y z = refl
-descend-length family e (suc d) x y z =
-    gather-length _ (4 ^ d) family (λ q. descend-length family e d (2 * x + q % 2) (2 * y + q / 2) (suc z))
-    ∙ rw (e, pow-suc 4 d) (mul-comm 4 (4 ^ d))
-
-pub family-four : (turn : ℕ) → length (familyOf turn) ≡ 4
-family-four zero = refl
-family-four (suc turn) = refl
-
-pub children-length : (turn d x y z : ℕ) → length (entriesOf (descendants (familyOf turn) d x y z)) ≡ 4 ^ d
-children-length turn d x y z =
-    length-map (descendants (familyOf turn) d x y z) _ ∙ descend-length (familyOf turn) (family-four turn) d x y z
-
--- the column and the row of a family's child, as the code computes them
-pub family-place : (turn k : ℕ) → turn < 2 → k < 4
-    → (getD (familyOf turn) k 0 % 2 ≡ (k + turn * (k / 2)) % 2) × (getD (familyOf turn) k 0 / 2 ≡ k / 2)
-family-place zero zero h l = (refl, refl)
-family-place zero (suc zero) h l = (refl, refl)
-family-place zero (suc (suc zero)) h l = (refl, refl)
-family-place zero (suc (suc (suc zero))) h l = (refl, refl)
-family-place zero (suc (suc (suc (suc k)))) h l = absurd (omega arith)
-family-place (suc zero) zero h l = (refl, refl)
-family-place (suc zero) (suc zero) h l = (refl, refl)
-family-place (suc zero) (suc (suc zero)) h l = (refl, refl)
-family-place (suc zero) (suc (suc (suc zero))) h l = (refl, refl)
-family-place (suc zero) (suc (suc (suc (suc k)))) h l = absurd (omega arith)
-family-place (suc (suc turn)) k h l = absurd (omega arith)
-
--- the entries of one child's descendants
-abbrev pub childEntries : ℕ → ℕ → ℕ → ℕ → ℕ → ℕ → List ℕ
-childEntries turn d x y z q = entriesOf (descendants (familyOf turn) d (2 * x + q % 2) (2 * y + q / 2) (suc z))
-
-pub child-length : (turn d x y z q : ℕ) → length (childEntries turn d x y z q) ≡ 4 ^ d
-child-length turn d x y z q = children-length turn d (2 * x + q % 2) (2 * y + q / 2) (suc z)
-
-pub children-gathered : (turn d x y z : ℕ)
-    → entriesOf (descendants (familyOf turn) (suc d) x y z) ≡ gather (childEntries turn d x y z) (familyOf turn)
-unfolding descendants
-children-gathered turn d x y z = entries-gather _ (familyOf turn)
 
 -- the first k quarters are written
 abbrev pub quarters : (ℕ → List ℕ) → List ℕ → ℕ → ℕ → List ℕ → List ℕ
@@ -122,11 +56,6 @@ in-quarters (suc d) {size} h e =
     let w : 4 * (size / 4) ≡ size = omega arith in
     record { quarter = rw f (omega arith); whole = w; within = λ l. omega (arith, mul-le-mul-right (size / 4) l) }
 
-pub child-on-map : {x y z : ℕ} (a b : ℕ) → OnMap x y z → a < 2 → b < 2 → z < maxZoom → OnMap (2 * x + a) (2 * y + b) (z + 1)
-child-on-map {x} {y} {z} a b m h k l =
-    let e : 2 ^ (z + 1) ≡ 2 * 2 ^ z = rw (add-one z, pow-suc 2 z) (omega arith) in
-    record { zoom = omega arith; column = omega (arith, m .column); row = omega (arith, m .row) }
-
 -- the part of the list from the start of a quarter to its end
 pub quarter-part : (out : List ℕ) (start q : ℕ) → start + q ≤ length out → length (take (start + q - start) (drop start out)) ≡ q
 quarter-part out start q h =
@@ -146,9 +75,6 @@ quarters-length g family q each k h memory l =
 pub quarters-all : (g : ℕ → List ℕ) (family : List ℕ) (q : ℕ) (memory : List ℕ) → length family * q ≡ length memory
     → quarters g family q (length family) memory ≡ gather g family
 quarters-all g family q memory e = rw (take-length, e, drop-length, append-nil)
-
-pub turn-small : (turn k : ℕ) → turn < 2 → k < 4 → turn * (k / 2) < 2
-turn-small turn k h l = let t : turn ≤ 1 = omega arith in omega (arith, mul-le-mul-right (k / 2) t)
 
 pub quarters-none : (g : ℕ → List ℕ) (family : List ℕ) (q : ℕ) (memory : List ℕ) → quarters g family q 0 memory ≡ memory
 unfolding gather
@@ -181,10 +107,3 @@ module _ (turn d x y z : ℕ) (memory : List ℕ) {q k : ℕ} {out : List ℕ} (
       held ∙ (ap (λ (n : ℕ). quarters (childEntries turn d x y z) (familyOf turn) q n memory) (e ∙ sym (family-four turn))
       ∙ (quarters-all (childEntries turn d x y z) (familyOf turn) q memory (rw (family-four turn) whole)
       ∙ sym (children-gathered turn d x y z)))
-
-pub child-too-deep : {z : ℕ} (x y target : ℕ) → maxZoom < z → (1 when ltb maxZoom target else tileRefusal x y z) ≡ 1
-child-too-deep {z} x y target h = rw (too-deep {z = z} x y h) (pick (ltb maxZoom target))
-  where
-    pick : (b : Bool) → (1 when b else 1) ≡ 1
-    pick true = refl
-    pick false = refl

@@ -1,111 +1,30 @@
--- From a call of `simplify` to the settled list of its ground from m on, and from the list settled at 0, cut down, to the same.
-use mathlib.Core.Path.{_≡_, refl, sym, ap, _∙_, subst}
+-- From the list settled at 0, cut down, to the settled list from m on.
+use mathlib.Core.Path.{_≡_, refl, sym, ap, _∙_}
 use mathlib.Core.Logic.{_↔_}
 use mathlib.Core.Bool.{Bool, true, false, cond}
 use mathlib.Core.List.{List, [], _∷_, List·Memᴰ, List·Nodup, Memᴰ·cast}
-use Prim.Native.Nat.{ℕ, _-_, _≤_, _<_}
-use native.Mathlib.Decide.{decLt}
+use Prim.Native.Nat.{ℕ, _-_, _≤_}
 use native.Mathlib.Omega.{arith}
 use borrow.Author.Tests.{ltb-false}
 use lib.Dec.{ltb}
 use lib.ListN.{length, length-map}
-use Rattle.area.specs.Area.{tilesOf, groundOf, settledEntries}
-use Rattle.area.specs.Grounds.{tiles-again, listed-covers}
-use Rattle.bits.specs.Tests.{allOf, into-map}
-use Rattle.builds.specs.Build.{own, settling}
-use Rattle.builds.specs.Refusals.{TooLong, NoTiles, a-call-is-refused}
+use Rattle.area.specs.Area.{settledEntries}
 use Rattle.children.specs.Children.{zOrder, gather, descendants}
 use Rattle.children.specs.Members.{in-gather, into-gather, once-gather, once-map}
 use Rattle.children.specs.Theorems.{z-order-is-a-family}
 use Rattle.children.specs.Under.{descend-under, under-descend, descend-once}
 use Rattle.constants.specs.Limits.{maxZoom}
-use Rattle.errors.specs.Gives.{accepted-items}
-use Rattle.errors.specs.Laws.{else-zero}
-use Rattle.floor.specs.Floor.{settledAt, AtFloor, inPlaceOf, cutDown, inListOrder}
-use Rattle.ground.specs.Floor.{CutTo, one-holder, settled-list-settled-from, settled-list-ground-from}
-use Rattle.ground.specs.Floor.{simplified-list-from, settled-list-cut-to}
-use Rattle.ground.specs.Ground.{ground, Same, SettledFrom, settledListFrom, settledList}
+use Rattle.floor.specs.Entries.{entry-back, entry-in, entry-of}
+use Rattle.floor.specs.Floor.{inPlaceOf, cutDown, inListOrder}
+use Rattle.ground.specs.Floor.{CutTo, one-holder, settled-list-settled-from, settled-list-cut-to}
+use Rattle.ground.specs.Ground.{SettledFrom, settledListFrom, settledList}
 use Rattle.ground.specs.Members.{ordered-once, no-longer}
-use Rattle.ids.specs.Entry.{entryOf, entryTile, entriesOf, isEntry, entry-again, entry-tile-again}
-use Rattle.merge.specs.Gives.{simplify-gives}
-use Rattle.merge.specs.Merge.{simplifyOf}
+use Rattle.ids.specs.Entry.{entryOf, entryTile, entriesOf, entry-again}
 use Rattle.tile.specs.declared.Tile.{Tile}
-use Rattle.quadtree.specs.Locations.{map-tile}
-use Rattle.tile_list.specs.Laws.{named-by, names, accepted-entries}
-use Rattle.tile_list.specs.List.{listed, listRefusal, placesRefusal}
+use Rattle.tile_list.specs.Laws.{named-by, names}
+use Rattle.tile_list.specs.List.{listed}
 use Rattle.tile_set.specs.Holds.{Valid}
 use Rattle.tile_set.specs.InOrder.{in-order-is}
-
--- the entries of tiles of the map stand for these tiles
-module _ (ts : List Tile) (valid : (t : Tile) → List·Memᴰ t ts → Valid maxZoom t) where
-  pub entry-back : (t : Tile) → List·Memᴰ t ts → entryTile (entryOf (t .x) (t .y) (t .z)) ≡ t
-  entry-back t i = entry-tile-again (t .x) (t .y) (t .z) (map-tile t (valid t i))
-
-  entry-in : (t : Tile) → List·Memᴰ t ts → List·Memᴰ (entryOf (t .x) (t .y) (t .z)) (entriesOf ts)
-  entry-in t i = into-map (λ (t : Tile). entryOf (t .x) (t .y) (t .z)) ts i
-
-  pub entry-of : (n : ℕ) → List·Memᴰ n (entriesOf ts) → List·Memᴰ (entryTile n) ts
-  entry-of n i = subst (λ (l : List Tile). List·Memᴰ (entryTile n) l) (tiles-again ts valid) (into-map entryTile (entriesOf ts) i)
-
--- when a call is not refused, at any m
-module _ (m : ℕ) (list memory : List ℕ) where
-  -- "6 over 65,536 entries", "7 no tile's number", and 12 where there are fewer places than entries
-  pub accepted-exactly : (simplifyOf list m memory .number ≡ 0) ↔ ((TooLong list → ⊥) × (NoTiles list → ⊥) × (length list ≤ length memory))
-  unfolding placesRefusal
-  accepted-exactly =
-      let n = simplify-gives m list memory .number in
-      let w = a-call-is-refused (λ a. groundOf list) (λ a. list) (settling (own list)) (length memory) .accepted in (
-        λ e. let k = w .0 (sym n ∙ e) in (k .0, k .1, room (k .3)),
-        λ k. n ∙ w .1 (k .0, k .1, λ e. e, λ l. omega (arith, l, k .2)),
-      )
-    where
-      room : (length memory < length list → ⊥) → length list ≤ length memory
-      room f = pick (decLt (length memory) (length list))
-        where
-          pick : Dec (length memory < length list) → length list ≤ length memory
-          pick (yes l) = absurd (f l)
-          pick (no l) = omega arith
-
--- what is settled at m is the settled list of the ground from m on
-module _ (m : ℕ) (list memory : List ℕ) (a : AtFloor m list memory) where
-  pub all-entries : allOf isEntry list ≡ true
-  unfolding placesRefusal
-  all-entries = accepted-entries list (else-zero (listRefusal list) _ (sym (simplify-gives m list memory .number) ∙ a .accepted) .0)
-
-  abbrev tiles : List Tile
-  tiles = settledListFrom m maxZoom (groundOf list)
-
-  valid : (t : Tile) → List·Memᴰ t tiles → Valid maxZoom t
-  valid = settled-list-settled-from m maxZoom (groundOf list) .of-map
-
-  pub answer-is : settledAt m list memory ≡ entriesOf tiles
-  answer-is =
-      accepted-items (simplifyOf list m memory) _ _ (simplify-gives m list memory) (a .accepted)
-      ∙ ap entriesOf (simplified-list-from m maxZoom (listed list) (listed-covers list all-entries) above)
-    where
-      above : (t : Tile) → listed list t ≡ true → m ≤ t .z
-      above t e = let s = named-by entryTile list t e in rw (← s .2) (a .floor (s .0) (s .1))
-
-  pub count-is : simplifyOf list m memory .value ≡ length tiles
-  count-is = simplify-gives m list memory .count ∙ (ap length answer-is ∙ length-map tiles (λ (t : Tile). entryOf (t .x) (t .y) (t .z)))
-
-  answer-tiles : tilesOf (settledAt m list memory) ≡ tiles
-  answer-tiles = ap tilesOf answer-is ∙ tiles-again tiles valid
-
-  pub answer-covers : Same maxZoom (groundOf (settledAt m list memory)) (groundOf list)
-  answer-covers X Y p q =
-      ap (λ (l : List Tile). ground maxZoom l X Y) answer-tiles ∙ settled-list-ground-from m maxZoom (a .limit) (groundOf list) X Y p q
-
-  pub answer-settled : SettledFrom m maxZoom (tilesOf (settledAt m list memory))
-  answer-settled = rw answer-tiles (settled-list-settled-from m maxZoom (groundOf list))
-
-  -- the same list settled at 0
-  pub at-0 : AtFloor 0 list memory
-  at-0 = record {
-    limit = omega arith;
-    floor = λ n i. omega arith;
-    accepted = accepted-exactly 0 list memory .1 (accepted-exactly m list memory .0 (a .accepted));
-  }
 
 in-place : (m : ℕ) (t : Tile) → inPlaceOf m t ≡ descendants zOrder (m - t .z) (t .x) (t .y) (t .z)
 unfolding descendants
