@@ -124,10 +124,10 @@ impl TileZBox {
         if z != self.zoom {
             return false;
         }
-        if !in_run(x, self.minx, self.maxx) {
+        if !in_range(x, self.minx, self.maxx) {
             return false;
         }
-        in_run(y, self.miny, self.maxy)
+        in_range(y, self.miny, self.maxy)
     }
 
     // Rows counted from the other side of the map.
@@ -286,7 +286,7 @@ fn wrong_run(min: u32, max: u32, end: u32) -> bool
     max < min || end <= max
 }
 
-fn in_run(n: u32, min: u32, max: u32) -> bool
+fn in_range(n: u32, min: u32, max: u32) -> bool
     ensures { λ r. ⌜ r ≡ inRange n min max ⌝ }
 {
     min <= n && n <= max

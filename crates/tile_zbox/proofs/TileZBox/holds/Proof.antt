@@ -11,22 +11,22 @@ returns : tie.Need-returns
 unfolding inBox
 returns c = let a = c .before .before .args in rw (ne-eqb (a .z) (a .self .zoom) (λ e. omega (arith, c .if1 .taken)))
 
-in-run-requires : tie.Need-in-run-requires
-in-run-requires c κs = search needs
+in-range-requires : tie.Need-in-range-requires
+in-range-requires c κs = search needs
 
 returns-2 : tie.Need-returns-2
 unfolding inBox
 returns-2 c = let a = c .before .before .before .before .args in
-    rw (eq-eqb (a .z) (a .self .zoom) (omega (arith, c .before .before .if1 .left)), sym (c .before .in-run .ensures) ∙ not-true _ (c .if2 .taken))
+    rw (eq-eqb (a .z) (a .self .zoom) (omega (arith, c .before .before .if1 .left)), sym (c .before .in-range .ensures) ∙ not-true _ (c .if2 .taken))
 
-in-run-requires-2 : tie.Need-in-run-requires-2
-in-run-requires-2 c κs = search needs
+in-range-requires-2 : tie.Need-in-range-requires-2
+in-range-requires-2 c κs = search needs
 
 returns-3 : tie.Need-returns-3
 unfolding inBox
 returns-3 c =
     let a = c .before .before .before .before .before .args in
-    rw (eq-eqb (a .z) (a .self .zoom) (omega (arith, c .before .before .before .if1 .left)), sym (c .before .before .in-run .ensures) ∙ not-false _ (c .before .if2 .left)) (c .in-run2 .ensures)
+    rw (eq-eqb (a .z) (a .self .zoom) (omega (arith, c .before .before .before .if1 .left)), sym (c .before .before .in-range .ensures) ∙ not-false _ (c .before .if2 .left)) (c .in-range2 .ensures)
 
 pub holds-spec : {M : Type 1} → statement M
-holds-spec = tie.close (tie.spec returns in-run-requires returns-2 in-run-requires-2 returns-3)
+holds-spec = tie.close (tie.spec returns in-range-requires returns-2 in-range-requires-2 returns-3)
