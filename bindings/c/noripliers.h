@@ -45,7 +45,7 @@ extern "C" {
 #endif
 
 /* The version: 10,000 for each major number, 100 for each minor one, 1 for each patch. */
-#define NORI_VERSION 201
+#define NORI_VERSION 300
 
 /* The deepest zoom. */
 #define NORI_MAX_ZOOM 29
@@ -496,8 +496,8 @@ NORI_NODISCARD uint8_t nori_zvec2zset(const uint8_t *zvec, size_t zvec_length, u
  * Refused: 1, 6. */
 NORI_NODISCARD uint8_t nori_zvec2zset_rev(const uint8_t *zvec, size_t zvec_length, uint32_t *zset);
 
-/* The runs of the zooms 1 to 29 of a set, which is never read the other way round: the lowest
- * zoom of each run in lows, the highest in highs.
+/* The maximal runs of the zooms 0 to 30 of a set, rising, at most 16: the lowest zoom of each
+ * run in lows, the highest in highs. Bit 31 of the set is no zoom, and turns nothing round here.
  * Refused: 12. */
 NORI_NODISCARD uint8_t nori_zoom_ranges(uint32_t zset, uint8_t *lows, size_t lows_places,
                                         uint8_t *highs, size_t highs_places, uint64_t *count);

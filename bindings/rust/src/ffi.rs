@@ -1,7 +1,7 @@
 //! The functions of the archive, as bindings/c/noripliers.h declares them. Written by tools/bindings.
 
 /// The version: 10,000 for each major number, 100 for each minor one, 1 for each patch.
-pub const VERSION: u32 = 201;
+pub const VERSION: u32 = 300;
 
 /// The deepest zoom.
 pub const MAX_ZOOM: u8 = 29;
@@ -462,7 +462,7 @@ unsafe extern "C" {
     pub unsafe fn nori_zvec2zset(zvec: *const u8, zvec_length: usize, zset: &mut u32) -> u8;
     /// The number of the listed zooms whose bit 31 - i is zoom i.
     pub unsafe fn nori_zvec2zset_rev(zvec: *const u8, zvec_length: usize, zset: &mut u32) -> u8;
-    /// The runs of the zooms 1 to 29 of a set, which is never read the other way round: the lowest zoom of each run in lows, the highest in highs.
+    /// The maximal runs of the zooms 0 to 30 of a set, rising, at most 16: the lowest zoom of each run in lows, the highest in highs.
     pub unsafe fn nori_zoom_ranges(
         zset: u32,
         lows: *mut u8,

@@ -358,13 +358,14 @@ pub fn zvec2zset_rev(zvec: &[u8]) -> Result<u32, Error> {
     value(|zset| unsafe { ffi::nori_zvec2zset_rev(zvec.as_ptr(), zvec.len(), zset) })
 }
 
-/// The runs of a set's zooms from 1 to 29: the lowest zoom of each run, and beside it the highest.
+/// The maximal runs of a set's zooms from 0 to 30, rising: the lowest zoom of each run, and beside it
+/// the highest. 16 places in each list are enough for any set.
 ///
 /// # Examples
 /// ```
 /// let (mut lows, mut highs) = ([9; 3], [9; 3]);
 /// assert_eq!(noripliers::lent::zoom_ranges(0b10_111, &mut lows, &mut highs), Ok(2));
-/// assert_eq!((lows, highs), ([1, 4, 9], [2, 4, 9]));
+/// assert_eq!((lows, highs), ([0, 4, 9], [2, 4, 9]));
 /// ```
 pub fn zoom_ranges(zset: u32, lows: &mut [u8], highs: &mut [u8]) -> Result<usize, Error> {
     count(|count| {
@@ -412,7 +413,7 @@ pub fn to_zooms(zset: u32, out: &mut [u8]) -> Result<usize, Error> {
 /// ```
 /// let (mut lows, mut highs) = ([9; 3], [9; 3]);
 /// assert_eq!(noripliers::lent::set_zoom_ranges(0b10_111, &mut lows, &mut highs), Ok(2));
-/// assert_eq!((lows, highs), ([1, 4, 9], [2, 4, 9]));
+/// assert_eq!((lows, highs), ([0, 4, 9], [2, 4, 9]));
 /// ```
 pub fn set_zoom_ranges(zset: u32, lows: &mut [u8], highs: &mut [u8]) -> Result<usize, Error> {
     count(|count| {

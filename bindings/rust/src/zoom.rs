@@ -49,14 +49,16 @@ pub fn zset2zvec_rev(zset: u32) -> Vec<u8> {
     never_refused(lend(PLACES, |out| lent::zset2zvec_rev(zset, out)))
 }
 
-/// The runs of a set's zooms from 1 to 29.
+/// The maximal runs of a set's zooms from 0 to 30, rising; there are at most 16. Bit 31 is no zoom,
+/// and turns nothing round here. utiles leaves out the zooms 0 and 30.
 ///
 /// # Examples
 /// ```
 /// use noripliers::ZoomRange;
 /// use noripliers::zoom::zoom_ranges;
 ///
-/// assert_eq!(zoom_ranges(0b10_111), [ZoomRange::new(1, 2), ZoomRange::new(4, 4)]);
+/// assert_eq!(zoom_ranges(0b10_111), [ZoomRange::new(0, 2), ZoomRange::new(4, 4)]);
+/// assert_eq!(zoom_ranges(3 << 30), [ZoomRange::new(30, 30)]);
 /// ```
 #[must_use]
 pub fn zoom_ranges(zset: u32) -> Vec<ZoomRange> {
@@ -165,14 +167,14 @@ impl ZoomSet {
         never_refused(lend(PLACES, |out| lent::to_zooms(self.0, out)))
     }
 
-    /// The runs of the zooms from 1 to 29, as the set's number stands: here bit 31 turns nothing
-    /// round.
+    /// The maximal runs of the zooms from 0 to 30, rising, as the set's number stands: here bit 31
+    /// turns nothing round.
     ///
     /// # Examples
     /// ```
     /// use noripliers::{ZoomRange, ZoomSet};
     ///
-    /// assert_eq!(ZoomSet::new(0b10_111).zoom_ranges(), [ZoomRange::new(1, 2), ZoomRange::new(4, 4)]);
+    /// assert_eq!(ZoomSet::new(0b10_111).zoom_ranges(), [ZoomRange::new(0, 2), ZoomRange::new(4, 4)]);
     /// ```
     #[must_use]
     pub fn zoom_ranges(&self) -> Vec<ZoomRange> {

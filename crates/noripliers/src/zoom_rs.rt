@@ -55,8 +55,8 @@ pub extern "C" fn nori_zvec2zset_rev(zvec: &[u8], zset: &mut u32) -> u8
     c_zoom::zvec2zset_rev(zvec, zset)
 }
 
-// The runs of the zooms 1 to 29 of a set, which is never read the other way round: the lowest zoom of each run in lows,
-// the highest in highs.
+// The maximal runs of the zooms 0 to 30 of a set, rising, at most 16: the lowest zoom of each run in lows, the highest in highs. Bit 31 of
+// the set is no zoom, and turns nothing round here.
 // Refused: 12.
 #[no_mangle]
 pub extern "C" fn nori_zoom_ranges(

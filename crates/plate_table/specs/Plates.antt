@@ -1,9 +1,10 @@
 -- Document 01's plates as one table, `table`, under one statement, `Plates`; the theorem is `plates`, and nothing is assumed. A row
 -- has the paper's words, what the definition in a call's promise gives, and what the paper says. The lines that the paper marks † are
--- all here, and three of its others.
+-- all here, and three of its others; the last is as document 02, K2, changes it.
 use mathlib.Core.Path.{_≡_, refl}
 use mathlib.Core.List.{[], _∷_}
 use Prim.Native.Nat.{_+_, _-_, _^_}
+use Rattle.bits.specs.Tests.{allOf}
 use Rattle.children.specs.Children.{gather}
 use Rattle.constants.specs.Limits.{maxZoom, maxEntries}
 use Rattle.errors.specs.Answer.{written}
@@ -23,8 +24,8 @@ use Rattle.tile.specs.OnMap.{tileAt, noTile, tileRefusal}
 use Rattle.tile.specs.declared.OptionU8.the-variants.{None, Some}
 use Rattle.tile_zbox.specs.Box.{boxAt, boxRefusal, wrongEdges, boxLength, lengthOf}
 use Rattle.zoom.specs.Zooms.{zvecSet, zoomsOf}
-use Rattle.zoom_bits.specs.Bits.{hasBit, those, setOf, zoomsIn, anyDeeper}
-use Rattle.zoom_ranges.specs.Ranges.{firstRun, lastRun, inRun, runStarts, runEnds, rangesOf}
+use Rattle.zoom_bits.specs.Bits.{hasBit, those, setOf, fromTo, zoomsIn, anyDeeper}
+use Rattle.zoom_ranges.specs.Ranges.{justBelow, maximalRun, runsBelow, holdsZoom, rangesOf}
 
 -- the plates, in the paper's order
 pub data Plate : Type 0 where
@@ -74,7 +75,7 @@ table whole-zoom = row "† Box of all zoom 16: 4294967296" (lengthOf (boxAt 16 
 table set-33 = row "† Zooms 0, 5: set 33" (zvecSet (0 ∷ 5 ∷ [])) (answeredWith 33)
 table turned-set = row "Set with bits 31 and 30: zoom 0" (written 0 (zoomsOf (2 ^ 31 + 2 ^ 30))) (written 0 (0 ∷ []))
 table zoom-runs =
-    row "Zooms 0, 1, 2, 4: ranges 1 to 2, 4 to 4" (rangesOf (zvecSet (0 ∷ 1 ∷ 2 ∷ 4 ∷ []) .value)) (ranges (1 ∷ 4 ∷ []) (2 ∷ 4 ∷ []))
+    row "Zooms 0, 1, 2, 4: ranges 0 to 2, 4 to 4" (rangesOf (zvecSet (0 ∷ 1 ∷ 2 ∷ 4 ∷ []) .value)) (ranges (0 ∷ 4 ∷ []) (2 ∷ 4 ∷ []))
 
 -- in every row the definition gives what the paper says. An answer in lent memory is so for every memory, however long and however filled
 abbrev pub Plates : Type 0
@@ -82,7 +83,7 @@ Plates = (p : Plate) → table p .gives ≡ table p .says
 
 pub plates : Plates
 unfolding tileRefusal maxZoom maxEntries keyFrom idOf levelStart parentRefusal gather boxRefusal wrongEdges
-    boxLength hasBit those setOf zoomsIn anyDeeper firstRun lastRun inRun runStarts runEnds allDigits keyRefusal spelled
+    boxLength hasBit those setOf zoomsIn anyDeeper fromTo allOf justBelow maximalRun runsBelow holdsZoom allDigits keyRefusal spelled
 plates key-213 = refl
 plates id-2659 = refl
 plates rmid-64 = refl

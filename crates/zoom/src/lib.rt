@@ -143,7 +143,7 @@ impl ZoomSet {
         zset2zvec(self.0, out)
     }
 
-    // The runs of zooms of the set.
+    // The maximal runs of the zooms of the set, whatever bit 31 is.
     pub fn zoom_ranges(self, lows: &mut [u8], highs: &mut [u8]) -> Count
         ensures { λ r. ⌜ leftTwo r (now (lows .exit)) (now (highs .exit)) ≡ rangesOf (self .0) (now (lows .entry)) (now (highs .entry)) ⌝ }
     {

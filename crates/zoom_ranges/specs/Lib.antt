@@ -1,6 +1,14 @@
 pub mod Theorems
+pub mod Maximal
 pub mod AsRust
 pub mod Cover
+pub mod EdgeBits
+pub mod Edges
+pub mod Few
+pub mod Listed
+pub mod Only
+pub mod Open
 pub mod Ranges
-pub mod Runs
 pub mod Rust
+pub mod Tested
+pub mod Unread

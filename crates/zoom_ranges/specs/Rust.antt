@@ -1,5 +1,5 @@
 -- What the Rust computes, on values: the ranges that it makes, and its loop of `zoom_ranges` in its own order. Theorems says that each is
--- document 01's reading.
+-- the papers' reading, for the sets that are held against the Rust.
 use mathlib.Core.Bool.{Bool, true, false, cond}
 use mathlib.Core.List.{List, [], _∷_, _++_}
 use Prim.Native.Nat.{ℕ, zero, suc}

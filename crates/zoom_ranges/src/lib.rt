@@ -5,19 +5,16 @@ use zoom_bits::LAST_ZOOM;
 ghost use mathlib.Core.Path.{_≡_};
 ghost use Prim.Native.Nat.{suc};
 ghost use Rattle.zoom_bits.specs.Bits.{lastZoom, setOf};
-ghost use Rattle.zoom_ranges.specs.Ranges.{rangeOf, inRun, runStarts, runEnds, leftTwo, rangesOf};
-
-// The first and the last zoom that runs are made of.
-const FIRST_RUN: u8 = 1;
-
-const LAST_RUN: u8 = 29;
+ghost use Rattle.zoom_ranges.specs.Edges.{runStarts, runEnds};
+ghost use Rattle.zoom_ranges.specs.Ranges.{rangeOf, holdsZoom, leftTwo, rangesOf};
 
 pub struct ZoomRange {
     pub min: u8,
     pub max: u8,
 }
 
-// The runs of a set: the lowest zoom of each, and the highest. A set is never turned round here.
+// The maximal runs of the zooms 0 to 30 of a set, rising, at most 16: the lowest zoom of each, and the highest. Bit 31 is no zoom, and
+// turns nothing round here.
 pub fn zoom_ranges(zset: u32, lows: &mut [u8], highs: &mut [u8]) -> Count
     ensures { λ r. ⌜ leftTwo r (now (lows .exit)) (now (highs .exit)) ≡ rangesOf zset (now (lows .entry)) (now (highs .entry)) ⌝ }
 {
@@ -70,23 +67,23 @@ impl ZoomRange {
     }
 }
 
-// The bits of a set that runs are made of.
+// The bits of the zooms of a set.
 fn run_bits(zset: u32) -> u32
-    ensures { λ r. ⌜ r ≡ setOf (inRun zset) (suc lastZoom) ⌝ }
+    ensures { λ r. ⌜ r ≡ setOf (holdsZoom zset) (suc lastZoom) ⌝ }
 {
-    zset & zoom_bits::span(FIRST_RUN, LAST_RUN)
+    zset & zoom_bits::span(0, LAST_ZOOM)
 }
 
 // A run starts at a bit with none before it, and ends at one with none after it.
 fn run_starts(zset: u32) -> u32
-    ensures { λ r. ⌜ r ≡ setOf (runStarts zset) (suc lastZoom) ⌝ }
+    ensures { λ r. ⌜ r ≡ setOf (runStarts (holdsZoom zset)) (suc lastZoom) ⌝ }
 {
     let runs = run_bits(zset);
     runs & (runs ^ (runs << 1))
 }
 
 fn run_ends(zset: u32) -> u32
-    ensures { λ r. ⌜ r ≡ setOf (runEnds zset) (suc lastZoom) ⌝ }
+    ensures { λ r. ⌜ r ≡ setOf (runEnds (holdsZoom zset)) (suc lastZoom) ⌝ }
 {
     let runs = run_bits(zset);
     runs & (runs ^ (runs >> 1))

@@ -27,6 +27,11 @@ fn of_set(tally: &mut Tally, random: &mut Random) {
     tally.call("zset2zvec", set, ours, || written(&lent, &rust::zset2zvec(set)));
     let ours = lend(&lent, |out, places, count| unsafe { nori_zset2zvec_rev(set, out, places, count) });
     tally.call("zset2zvec_rev", set, ours, || written(&lent, &rust::zset2zvec_rev(set)));
+    of_runs(tally, random, set & !(1 << 30 | 1));
+}
+
+// The runs of a set that holds neither zoom 0 nor zoom 30: those the Rust leaves out.
+fn of_runs(tally: &mut Tally, random: &mut Random, set: u32) {
     let lows = junk(random, RUNS, |n| n as u8);
     let highs = junk(random, RUNS, |n| n as u8);
     tally.call("zoom_ranges", set, ranges(set, &lows, &highs), || {

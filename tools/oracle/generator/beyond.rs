@@ -151,6 +151,7 @@ fn zooms() {
         ZoomSet::new(0b10111).zoom_ranges();
         ZoomSet::new(1 << 29).zoom_ranges();
         ZoomSet::new(1 << 30).zoom_ranges();
+        ZoomSet::new(3 << 29).zoom_ranges();
         ZoomSet::new(1) & 0u8;
         ZoomSet::new(1) & 31u8;
         ZoomSet::new(1) & 32u8;

@@ -1,4 +1,5 @@
-//! Document 01's refusals, by its words alone: 0 where nothing is refused, else the lowest number that applies.
+//! Document 01's refusals, by its words alone: 0 where nothing is refused, else the lowest number that applies. Answers that the
+//! papers give otherwise than the Rust, by their words.
 use crate::sample::{Xyz, Zbox};
 
 pub const DEEPEST: u8 = 29;
@@ -134,6 +135,15 @@ pub fn boxes_next(areas: &[Zbox], before: u64) -> Vec<u64> {
         place -= length;
     }
     vec![0, 0, 0, 0, before]
+}
+
+/// Document 02: every lowest and highest zoom, 0 to 30, with all between them in the set and the ones just outside not.
+pub fn runs(set: u32) -> Vec<(u8, u8)> {
+    let has = |zoom: u8| zoom <= DEEPEST_IN_LIST && set >> zoom & 1 == 1;
+    let below = |low: u8| low > 0 && has(low - 1);
+    let highs = |low| (low..=DEEPEST_IN_LIST).map(move |high| (low, high));
+    let maximal = |&(low, high): &(u8, u8)| (low..=high).all(has) && !below(low) && !has(high + 1);
+    (0..=DEEPEST_IN_LIST).flat_map(highs).filter(maximal).collect()
 }
 
 pub fn ids(numbers: &[u64]) -> u64 {

@@ -1,5 +1,5 @@
 //! A list of calls and answers: first those that the Rust was run for, then those that document 01 decides alone, then those
-//! that bitmaps answer by the words of document 02.
+//! that are answered by the words of document 02.
 use std::collections::{BTreeMap, HashSet};
 use std::panic::{AssertUnwindSafe, catch_unwind, set_hook, take_hook};
 
@@ -67,7 +67,7 @@ impl List {
         self.counts.entry(name.to_string()).or_default()[2] += 1;
     }
 
-    /// A call that document 02 claims something of, with the answer that a bitmap gives.
+    /// A call that document 02 answers or claims something of, with the answer by its words.
     pub fn claim(&mut self, name: &str, args: &[u64], values: &[u64]) {
         let Some(call) = self.first(name, args) else { return };
         self.claimed += &line(&call, 0, values);
@@ -101,7 +101,7 @@ impl List {
             text += &format!("# refusals by document 01, not run\n{}", self.refused);
         }
         if !self.claimed.is_empty() {
-            text += &format!("# answers by document 02, from bitmaps\n{}", self.claimed);
+            text += &format!("# answers by document 02\n{}", self.claimed);
         }
         text
     }

@@ -77,16 +77,22 @@ fn numbered(tally: &mut Tally) {
 
 /// Lows and highs are lent in one memory, with places between them that no call may write to.
 fn runs(tally: &mut Tally, name: &'static str, call: ToRuns) {
-    let sets: [(u32, &[u8], &[u8]); 4] = [
-        (0b10_111, &[1, 4], &[2, 4]),
+    let even: Vec<u8> = (0..=30).step_by(2).collect();
+    let odd: Vec<u8> = (1..=29).step_by(2).collect();
+    let sets: [(u32, &[u8], &[u8]); 8] = [
+        (0b10_111, &[0, 4], &[2, 4]),
         (0, &[], &[]),
-        (u32::MAX, &[1], &[29]),
-        (
-            0x5555_5555,
-            &[2, 4, 6, 8, 10, 12, 14, 16, 18, 20, 22, 24, 26, 28],
-            &[2, 4, 6, 8, 10, 12, 14, 16, 18, 20, 22, 24, 26, 28],
-        ),
+        (1, &[0], &[0]),
+        (1 << 30, &[30], &[30]),
+        (1 << 30 | 1, &[0, 30], &[0, 30]),
+        ((1 << 31) - 1, &[0], &[30]),
+        (0x5555_5555, &even, &even),
+        (0x2aaa_aaaa, &odd, &odd),
     ];
+    // Bit 31 changes nothing.
+    let sets = sets
+        .into_iter()
+        .flat_map(|(zset, lows, highs)| [(zset, lows, highs), (zset | 1 << 31, lows, highs)]);
     for (zset, lows, highs) in sets {
         for (more_lows, more_highs) in [(0, 0), (4, 0), (0, 4)] {
             let (low_places, high_places) = (lows.len() + more_lows, highs.len() + more_highs);
@@ -104,7 +110,7 @@ fn runs(tally: &mut Tally, name: &'static str, call: ToRuns) {
                 written,
             );
         }
-        for (low_places, high_places) in [(lows.len(), 0), (0, highs.len())] {
+        for (low_places, high_places) in short_of(lows.len()) {
             if !lows.is_empty() {
                 let places = low_places + high_places + 2 * BEHIND;
                 let same = |before: &[u8]| (12, 0, before.to_vec());
@@ -117,6 +123,12 @@ fn runs(tally: &mut Tally, name: &'static str, call: ToRuns) {
             }
         }
     }
+}
+
+/// Places of which one list has too few: none, or one too few.
+fn short_of(runs: usize) -> [(usize, usize); 4] {
+    let fewer = runs.saturating_sub(1);
+    [(runs, 0), (0, runs), (runs, fewer), (fewer, runs)]
 }
 
 fn lend(call: ToRuns, zset: u32, lows: usize, highs: usize) -> impl Fn(&mut [u8], &mut u64) -> u8 {

@@ -1,6 +1,6 @@
 -- `zoom_ranges::run_ends` meets its contract: bit by bit.
 use borrow.Author.Needs.{needs}
-use Rattle.zoom_ranges.specs.Runs.{run-ends-are}
+use Rattle.zoom_ranges.specs.EdgeBits.{run-ends-are}
 use Rattle.zoom_ranges.proofs.run_ends.Statement.{statement}
 use Rattle.zoom_ranges.proofs.run_ends.Tie as tie
 

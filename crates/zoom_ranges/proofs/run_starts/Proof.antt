@@ -1,6 +1,6 @@
 -- `zoom_ranges::run_starts` meets its contract: bit by bit.
 use borrow.Author.Needs.{needs}
-use Rattle.zoom_ranges.specs.Runs.{run-starts-are}
+use Rattle.zoom_ranges.specs.EdgeBits.{run-starts-are}
 use Rattle.zoom_ranges.proofs.run_starts.Statement.{statement}
 use Rattle.zoom_ranges.proofs.run_starts.Tie as tie
 

@@ -1,5 +1,5 @@
 -- `zoom_ranges::zoom_ranges` meets its contract: as many runs start as end, so one count serves both lists.
-use mathlib.Core.Path.{_≡_, ap, _∙_}
+use mathlib.Core.Path.{_≡_, sym, ap, _∙_}
 use Prim.Native.Nat.{suc}
 use native.Mathlib.Omega.{arith}
 use lib.ListN.{length}
@@ -7,8 +7,9 @@ use borrow.Author.Needs.{needs}
 use borrow.Author.Tests.{lt-ltb, le-ltb}
 use Rattle.zoom_bits.specs.Bits.{lastZoom}
 use Rattle.zoom_bits.specs.Passing.{those-of-set, zooms-filled}
-use Rattle.zoom_ranges.specs.Ranges.{runLows, runStarts, runEnds}
-use Rattle.zoom_ranges.specs.Runs.{run-count}
+use Rattle.zoom_ranges.specs.Edges.{runStarts, runEnds, lows-are, highs-are}
+use Rattle.zoom_ranges.specs.Listed.{as-many}
+use Rattle.zoom_ranges.specs.Ranges.{holdsZoom, runLows}
 use Rattle.zoom_ranges.proofs.zoom_ranges.Statement.{statement}
 use Rattle.zoom_ranges.proofs.zoom_ranges.Tie as tie
 
@@ -21,7 +22,9 @@ count-zooms-requires c κs = search needs
 -- the counted bits are the starts of the runs
 count-is : (c : tie.After-count-zooms) → c .count-zooms .result ≡ length (runLows (c .before .before .before .before .args .zset))
 count-is c =
-    c .count-zooms .ensures ∙ (rw (c .before .run-starts .ensures) (ap length (those-of-set (runStarts (c .before .before .before .before .args .zset)) (suc lastZoom))))
+    let zset = c .before .before .before .before .args .zset in
+    c .count-zooms .ensures
+    ∙ (rw (c .before .run-starts .ensures) (ap length (those-of-set (runStarts (holdsZoom zset)) (suc lastZoom) ∙ sym (lows-are zset))))
 
 returns : tie.Need-returns
 returns c =
@@ -43,7 +46,7 @@ run-ends-requires c κs = search needs
 fill-requires-2 : tie.Need-fill-requires-2
 fill-requires-2 c κs =
     let a = c .before .before .before .before .before .before .before .before .before .before .before .before .args in
-    rw (c .before .run-ends .ensures, those-of-set (runEnds (a .zset)) (suc lastZoom), ← run-count (a .zset))
+    rw (c .before .run-ends .ensures, those-of-set (runEnds (holdsZoom (a .zset))) (suc lastZoom), ← highs-are (a .zset), ← as-many (a .zset))
     (omega (arith, count-is (c .before .before .before .before .before .before .before .before)))
 
 same-length : tie.Need-same-length
@@ -60,10 +63,12 @@ returns-3 c =
       le-ltb (length (a .lows .now)) (length (runLows (a .zset))) (omega arith),
       le-ltb (length (a .highs .now)) (length (runLows (a .zset))) (omega arith),
       n,
-      zooms-filled (runStarts (a .zset)) (a .lows .now)
+      zooms-filled (runStarts (holdsZoom (a .zset))) (a .lows .now)
           (c .before .before .before .before .before .before .before .before .before .before .before .before .run-starts .ensures)
           (c .before .before .before .before .before .before .before .fill .ensures),
-      zooms-filled (runEnds (a .zset)) (a .highs .now) (c .before .before .before .before .run-ends .ensures) (c .before .before .fill2 .ensures),
+      zooms-filled (runEnds (holdsZoom (a .zset))) (a .highs .now) (c .before .before .before .before .run-ends .ensures) (c .before .before .fill2 .ensures),
+      ← lows-are (a .zset),
+      ← highs-are (a .zset),
     )
 
 pub zoom-ranges-spec : {M : Type 1} → statement M

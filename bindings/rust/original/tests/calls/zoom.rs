@@ -10,14 +10,7 @@ pub fn compare(random: &mut Random) {
     assert_eq!(ours::zset2zvec_rev(a), rust::zset2zvec_rev(a));
     let (zooms, rust_zooms) = (ours::ZoomSet::new(a), rust::ZoomSet::new(a));
     assert_eq!(Vec::from(zooms), Vec::from(rust_zooms));
-    assert_eq!(
-        pairs(zooms.zoom_ranges()),
-        rust_pairs(rust_zooms.zoom_ranges())
-    );
-    assert_eq!(
-        pairs(ours::zoom_ranges(a)),
-        rust_pairs(rust_zooms.zoom_ranges())
-    );
+    runs(a & !(1 << 30 | 1));
     let and = (zooms & ours::ZoomSet::new(b), zooms & b, b & zooms);
     let rust_and = (
         rust_zooms & rust::ZoomSet::new(b),
@@ -59,6 +52,13 @@ pub fn compare(random: &mut Random) {
         ours::ZoomSet::all().to_zooms(),
         rust::ZoomSet::all().to_zooms()
     );
+}
+
+/// The original leaves out the zooms 0 and 30: it is asked for sets that hold neither.
+fn runs(set: u32) {
+    let runs = rust_pairs(rust::ZoomSet::new(set).zoom_ranges());
+    assert_eq!(pairs(ours::ZoomSet::new(set).zoom_ranges()), runs);
+    assert_eq!(pairs(ours::zoom_ranges(set)), runs);
 }
 
 fn lists(random: &mut Random, set: u32) {
