@@ -7,7 +7,7 @@ use mathlib.Core.Logic.{_↔_}
 use Prim.Native.Nat.{ℕ, suc, _+_, _/_, _^_, _≤_}
 use lib.ListN.{length}
 use Rattle.bits.specs.Tests.{allOf}
-use Rattle.zoom_bits.specs.Bits.{hasBit, those, fromTo, lastZoom, turnBit}
+use Rattle.zoom_bits.specs.Bits.{hasBit, those, setOf, fromTo, lastZoom, turnBit, zoomsIn, setOfZooms}
 use Rattle.zoom_ranges.specs.AsRust.{runs-as-rust}
 use Rattle.zoom_ranges.specs.Cover.{spread, runs-cover}
 use Rattle.zoom_ranges.specs.Few.{few-runs}
@@ -59,7 +59,13 @@ pub rust-zoom-ranges : (zset : ℕ) → hasBit zset 0 ≡ false → hasBit zset 
 unfolding holdsZoom hasBit
 rust-zoom-ranges zset no-0 no-30 = runs-as-rust zset no-0 no-30
 
--- the others it answers otherwise: of zoom 0 alone and of zoom 30 alone it gives no run
+-- the others it answers otherwise. "Planners list zooms 0 to 3 and get the range 1 to 3;"
+pub rust-begins-at-1 : (zoomRanges (setOfZooms (0 ∷ 1 ∷ 2 ∷ 3 ∷ [])) ≡ rangeOf 1 3 ∷ [])
+    × (runs (setOfZooms (0 ∷ 1 ∷ 2 ∷ 3 ∷ [])) ≡ rangeOf 0 3 ∷ [])
+unfolding walk runsBelow maximalRun justBelow holdsZoom hasBit allOf fromTo those setOf zoomsIn
+rust-begins-at-1 = (refl, refl)
+
+-- "zoom 30 vanishes too": of zoom 0 alone and of zoom 30 alone it gives no run
 pub rust-leaves-out-0 : (zoomRanges 1 ≡ []) × (runs 1 ≡ rangeOf 0 0 ∷ [])
 unfolding walk runsBelow maximalRun justBelow holdsZoom hasBit allOf fromTo those
 rust-leaves-out-0 = (refl, refl)

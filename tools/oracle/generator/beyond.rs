@@ -148,6 +148,7 @@ fn zooms() {
         ZoomSet::from(ZoomRange::new(0, 31));
         ZoomSet::new(0b1).zoom_ranges();
         ZoomSet::new(0b11).zoom_ranges();
+        ZoomSet::new(0b1111).zoom_ranges();
         ZoomSet::new(0b10111).zoom_ranges();
         ZoomSet::new(1 << 29).zoom_ranges();
         ZoomSet::new(1 << 30).zoom_ranges();
