@@ -7,11 +7,11 @@ use native.Mathlib.Decide.{decLt}
 use native.Mathlib.Omega.{arith}
 use lib.ListN.{length, take, getD, set, length-set}
 use lib.Seq.{getD-set-same, getD-set-other}
-use Rattle.bits.specs.Tests.{getD-in}
+use Rattle.bits.specs.Tests.{getD-in, in-getD}
 use Rattle.quadtree.specs.Lists.{TileNumbers}
 use Rattle.quadtree.specs.Numbers.{OfMap, mortonOf, mortonTile, locationOf, locationTile}
 use Rattle.quadtree.specs.OneTile.{morton-tile}
-use Rattle.sort.specs.At.{in-at, taken-at, at-taken, by-at, rising-at}
+use Rattle.sort.specs.At.{taken-at, at-taken, by-at, rising-at}
 use Rattle.settle.specs.Middle.{location-at}
 use Rattle.quadtree.specs.Locations.{endOf, low-pos, low-below, Lie, holding, held, before, after, lies, held-run, IsLocation, tiles}
 use Rattle.sort.specs.Sort.{By}
@@ -45,7 +45,7 @@ module _ {list tops : List ℕ} (T : Tops list tops) {k : ℕ} (s : IsLocation k
   holder =
       let r = T .covers (locationTile k) listed in
       let n = named-by locationTile tops (r .0) (r .1) in
-      let a = in-at tops (n .1) in
+      let a = in-getD tops 0 (n .1) in
       record { index = a .0; within = a .1; holds = rw (a .2, n .2) (r .2) }
 
   abbrev top : Tile
@@ -236,7 +236,7 @@ module _ {m : ℕ} {l₀ tops l : List ℕ} {count top i : ℕ} (f : TileNumbers
   back : (t : Tile) → uncovered m (named locationTile l₀) t ≡ true → named mortonTile (take count l) t ≡ true
   back t e =
       let s = named-by locationTile l₀ t (uncovered-of m (named locationTile l₀) t e .0) in
-      let a = in-at l₀ (s .1) in
+      let a = in-getD l₀ 0 (s .1) in
       let k : a .0 < i = omega (arith, a .1, W .long) in
       let v : tiles l₀ (a .0) ≡ t = ap locationTile (a .2) ∙ s .2 in
       let b = W .stands (a .0) k (rw v e) in

@@ -64,6 +64,16 @@ getD-in [] i d h = absurd (omega arith)
 getD-in (a ∷ l) zero d h = List·Memᴰ·head refl
 getD-in (a ∷ l) (suc i) d h = List·Memᴰ·tail (getD-in l i d (omega arith))
 
+-- and what is in it stands at a place
+pub in-getD : {A : Type 0} (l : List A) (d : A) {a : A} → List·Memᴰ a l → (i : ℕ) × (i < length l) × (getD l i d ≡ a)
+in-getD [] d m = absurd (List·Memᴰ·not-nil m)
+in-getD (b ∷ l) d {a} m = pick (List·Memᴰ·cases-cons m) (λ k. in-getD l d k)
+  where
+    pick : (a ≡ b) ⊎ List·Memᴰ a l → (List·Memᴰ a l → (i : ℕ) × (i < length l) × (getD l i d ≡ a))
+        → (i : ℕ) × (i < length (b ∷ l)) × (getD (b ∷ l) i d ≡ a)
+    pick (inl e) below = (0, omega arith, sym e)
+    pick (inr k) below = let s = below k in (suc (s .0), omega (arith, s .1), s .2)
+
 unfoldable pub anyOf : {A : Type 0} → (A → Bool) → List A → Bool
 anyOf p [] = false
 anyOf p (a ∷ l) = p a || anyOf p l

@@ -7,9 +7,9 @@ use Prim.Native.Nat.{ℕ, suc, _+_, _-_, _≤_, _<_}
 use native.Mathlib.Omega.{arith}
 use lib.ListN.{length, take, getD, set}
 use lib.Seq.{getD-set-same, getD-set-other}
-use Rattle.bits.specs.Tests.{and-parts, getD-in}
+use Rattle.bits.specs.Tests.{and-parts, getD-in, in-getD}
 use Rattle.quadtree.specs.Numbers.{locationTile}
-use Rattle.sort.specs.At.{in-at, taken-at, at-taken}
+use Rattle.sort.specs.At.{taken-at, at-taken}
 use Rattle.quadtree.specs.Locations.{lowOf, startOf, endOf, low-pos, low-below, Lie, holding, held, before, after, lies, held-run}
 use Rattle.quadtree.specs.Locations.{IsLocation, tiles, Runs}
 use Rattle.sort.specs.Compared.{eq-or-ne, le-or-lt}
@@ -221,10 +221,10 @@ held-lies : (a b : List ℕ) (t : Tile) → named locationTile a t && heldBy (na
 held-lies a b t e =
     let p = and-parts (named locationTile a t) (heldBy (named locationTile b) t) e in
     let u = named-by locationTile a t (p .0) in
-    let k = in-at a (u .1) in
+    let k = in-getD a 0 (u .1) in
     let s = any-below-of (suc (t .z)) (λ s. named locationTile b (ancestor t s)) (p .1) in
     let v = named-by locationTile b (ancestor t (s .0)) (s .2) in
-    let m = in-at b (v .1) in
+    let m = in-getD b 0 (v .1) in
     let is : tiles a (k .0) ≡ t = ap locationTile (k .2) ∙ u .2 in
     let over : tiles b (m .0) ≡ ancestor t (s .0) = ap locationTile (m .2) ∙ v .2 in
     (k .0, m .0, k .1, m .1, rw (is, over) (ancestor-holds t (s .0) (omega (arith, s .1))), is)

@@ -6,11 +6,10 @@ use Prim.Native.Nat.{ℕ, suc, _≤_, _<_}
 use native.Mathlib.Decide.{decLt}
 use native.Mathlib.Omega.{arith}
 use lib.ListN.{length}
-use Rattle.bits.specs.Tests.{in-map, into-map, getD-in}
+use Rattle.bits.specs.Tests.{in-map, into-map, getD-in, in-getD}
 use Rattle.constants.specs.Limits.{maxZoom}
 use Rattle.quadtree.specs.Numbers.{OfMap, locationOf, locationTile}
 use Rattle.quadtree.specs.OneTile.{location-tile}
-use Rattle.sort.specs.At.{in-at}
 use Rattle.quadtree.specs.Locations.{lowOf, startOf, endOf, low-pos, low-below, held-run, lies, Lie, holding, held, before, after, tiles}
 use Rattle.quadtree.specs.Locations.{Runs}
 use Rattle.tile.specs.declared.Tile.{Tile}
@@ -48,7 +47,7 @@ longer-holds s t m n a b h = pick (lies s t m n)
 pub gone-at : (l : List ℕ) {g : Tile} → List·Memᴰ g (map locationTile l) → (i : ℕ) × (i < length l) × (g ≡ tiles l i)
 gone-at l m =
     let s = in-map locationTile l m in
-    let k = in-at l (s .1) in
+    let k = in-getD l 0 (s .1) in
     (k .0, k .1, s .2 ∙ ap locationTile (sym (k .2)))
 
 pub at-gone : (l : List ℕ) (i : ℕ) → i < length l → List·Memᴰ (tiles l i) (map locationTile l)

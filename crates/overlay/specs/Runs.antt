@@ -4,13 +4,13 @@ use mathlib.Core.List.{List, [], _∷_, map, List·Memᴰ, List·Memᴰ·head, L
 use Prim.Native.Nat.{ℕ}
 use native.Mathlib.Omega.{arith}
 use lib.ListN.{length, length-map}
-use Rattle.bits.specs.Tests.{in-map}
+use Rattle.bits.specs.Tests.{in-map, in-getD}
 use Rattle.quadtree.specs.Lists.{rankEntry, TileNumbers}
 use Rattle.quadtree.specs.Locations.{low-pos, IsLocation, tiles, Runs}
 use Rattle.quadtree.specs.Numbers.{locationOf, locationTile, rankOf}
 use Rattle.quadtree.specs.OneTile.{rank-inj}
 use Rattle.quadtree.specs.declared.Key.the-variants.{Location}
-use Rattle.sort.specs.At.{in-at, rising-by-at}
+use Rattle.sort.specs.At.{rising-by-at}
 use Rattle.sort.specs.EachOnce.{in-once, once-in}
 use Rattle.sort.specs.Rising.{once-rising, insert-rising, rising-sorted, rising-ext}
 use Rattle.sort.specs.Sort.{sortN, onceOf, Rising, By}
@@ -20,7 +20,7 @@ use Rattle.tile_list.specs.List.{named, entriesInOrder}
 
 pub runs-numbers : (l : List ℕ) → Runs l → TileNumbers locationOf l
 runs-numbers l r n m =
-    let s = in-at l m in
+    let s = in-getD l 0 m in
     let p = r .each (s .0) (s .1) in
     record { tile = tiles l (s .0); on-map = p .of-map; number = p .again ∙ s .2 }
 
@@ -63,7 +63,7 @@ runs-count l r =
     as-many = length-map (map locationTile l) rankOf ∙ length-map l locationTile
 
     location : (k : ℕ) → List·Memᴰ k l → IsLocation k
-    location k m = let s = in-at l m in rw (← s .2) (r .each (s .0) (s .1))
+    location k m = let s = in-getD l 0 m in rw (← s .2) (r .each (s .0) (s .1))
 
     once : onceOf (sortN ranks) ≡ sortN ranks
     once =

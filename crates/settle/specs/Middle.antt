@@ -8,7 +8,7 @@ use native.Mathlib.Decide.{decLt}
 use native.Mathlib.Omega.{arith}
 use lib.ListN.{length, take, getD, set, length-set}
 use lib.Seq.{getD-set-same, getD-set-other}
-use Rattle.bits.specs.Tests.{getD-in}
+use Rattle.bits.specs.Tests.{getD-in, in-getD}
 use Rattle.quadtree.specs.Lists.{TileNumbers, number-at}
 use Rattle.quadtree.specs.Numbers.{OfMap, locationOf, locationTile}
 use Rattle.quadtree.specs.OneTile.{location-tile}
@@ -19,7 +19,7 @@ use Rattle.tile_list.specs.Laws.{named-by, names}
 use Rattle.tile_set.specs.Holds.{Holds, holds-refl, holds-trans}
 use Rattle.tile_set.specs.Merged.{whole-all}
 use Rattle.tile_set.specs.Simplified.{listed}
-use Rattle.sort.specs.At.{in-at, taken-at, at-taken, taken-rising, by-at}
+use Rattle.sort.specs.At.{taken-at, at-taken, taken-rising, by-at}
 use Rattle.quadtree.specs.Locations.{lowOf, startOf, endOf, low-pos, low-below, held-run, location-held, parent-of-map, IsLocation}
 use Rattle.quadtree.specs.Locations.{tile-location, tiles}
 use Rattle.settle.specs.Settle.{Settles, Popped, Family, Joins, stop, join}
@@ -236,7 +236,7 @@ module _ (m : ℕ) (l₀ l : List ℕ) (count end i : ℕ) (M : Mid m l₀ l cou
   covers : (s : Tile) → named locationTile l₀ s ≡ true → (r : Tile) × (R r ≡ true) × Holds r s
   covers s e =
       let n = named-by locationTile l₀ s e in
-      let a = in-at l₀ (n .1) in
+      let a = in-getD l₀ 0 (n .1) in
       let u = M .read (a .0) (omega (arith, a .1, M .long)) in
       (tiles l (u .0), at-named (u .0) (u .1), subst (λ (x : Tile). Holds (tiles l (u .0)) x) (ap locationTile (a .2) ∙ n .2) (u .2))
 

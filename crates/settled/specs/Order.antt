@@ -6,14 +6,13 @@ use Prim.Native.Nat.{ℕ, zero, suc, _+_, _≤_, _<_}
 use native.Mathlib.Decide.{decLt}
 use native.Mathlib.Omega.{arith}
 use lib.ListN.{length, getD}
-use Rattle.bits.specs.Tests.{and-parts, allOf, all-in, in-all, getD-in, in-map}
+use Rattle.bits.specs.Tests.{and-parts, allOf, all-in, in-all, getD-in, in-map, in-getD}
 use Rattle.ids.specs.Entry.{entryTile, isEntry}
 use Rattle.quadtree.specs.Lists.{entryKey}
 use Rattle.quadtree.specs.Numbers.{OfMap, rankOf}
 use Rattle.quadtree.specs.OneTile.{location-inj}
 use Rattle.quadtree.specs.RankOrder.{rank-small, rank-before, before-rank}
 use Rattle.quadtree.specs.declared.Key.the-variants.{Location}
-use Rattle.sort.specs.At.{in-at}
 use Rattle.sort.specs.Rising.{insert-rising}
 use Rattle.sort.specs.Sort.{sortN, Rising}
 use Rattle.sort.specs.Sorted.{sort-in}
@@ -73,7 +72,7 @@ rise-ordered (a ∷ l) e f = rw (first, rise-ordered l (rest-entries a l e) (λ 
     first : allOf (λ b. isBefore (entryTile a) (entryTile b)) l ≡ true
     first =
         in-all (λ b. isBefore (entryTile a) (entryTile b)) l (λ n m.
-        let s = in-at l m in
+        let s = in-getD l 0 m in
         before-is (before-rank (entryTile a) (entryTile n) (tile-at (a ∷ l) e 0 (omega arith)) (entry-map (a ∷ l) e n (List·Memᴰ·tail m))
         (rw (s .2) at (f 0 (suc (s .0)) (omega arith) (omega (arith, s .1))))))
 

@@ -6,10 +6,9 @@ use Prim.Native.Nat.{ℕ, _+_, _-_, _≤_, _<_}
 use native.Mathlib.Decide.{decLt}
 use native.Mathlib.Omega.{arith}
 use lib.ListN.{length, getD}
-use Rattle.bits.specs.Tests.{getD-in}
+use Rattle.bits.specs.Tests.{getD-in, in-getD}
 use Rattle.quadtree.specs.Lists.{TileNumbers}
 use Rattle.quadtree.specs.Numbers.{locationOf, locationTile}
-use Rattle.sort.specs.At.{in-at}
 use Rattle.settle.specs.Middle.{location-at}
 use Rattle.quadtree.specs.Locations.{lowOf, startOf, endOf, IsLocation, tiles, Runs}
 use Rattle.settle.specs.Settle.{Stand, Family}
@@ -25,7 +24,7 @@ use Rattle.settled.specs.Answers.{Lone}
 pub named-among : (l : List ℕ) (t : Tile) → named locationTile l t ≡ true → Among (tiles l) (length l) t
 named-among l t e =
     let s = named-by locationTile l t e in
-    let a = in-at l (s .1) in
+    let a = in-getD l 0 (s .1) in
     (a .0, a .1, ap locationTile (a .2) ∙ s .2)
 
 pub at-named : (l : List ℕ) (i : ℕ) → i < length l → {t : Tile} → tiles l i ≡ t → named locationTile l t ≡ true

@@ -2,15 +2,15 @@
 use mathlib.Core.Path.{_≡_, sym, ap, _∙_}
 use mathlib.Core.Bool.{Bool, true, false}
 use mathlib.Core.Logic.{_⊎_, inl, inr}
-use mathlib.Core.List.{List, [], _∷_, _++_, map, Memᴰ·append-left, Memᴰ·append-right}
-use mathlib.Core.List.{List·Memᴰ, List·Memᴰ·not-nil, List·Memᴰ·cases-cons, List·Memᴰ·append-cases}
+use mathlib.Core.List.{List, _++_, map, Memᴰ·append-left, Memᴰ·append-right}
+use mathlib.Core.List.{List·Memᴰ, List·Memᴰ·not-nil, List·Memᴰ·append-cases}
 use Prim.Native.Nat.{ℕ, zero, suc, _≤_, _<_}
 use native.Mathlib.Omega.{arith}
 use native.Mathlib.Decide.{decLt}
 use lib.Dec.{leb}
 use lib.ListN.{length, getD, length-map, List·getD-map}
 use borrow.Author.Tests.{leb-true}
-use Rattle.bits.specs.Tests.{and-parts, getD-in, in-map, into-map}
+use Rattle.bits.specs.Tests.{and-parts, getD-in, in-getD, in-map, into-map}
 use Rattle.zoom_bits.specs.Bits.{those, lastZoom}
 use Rattle.zoom_bits.specs.Passing.{in-those, those-in}
 use Rattle.zoom_bits.specs.Rising.{those-rising}
@@ -53,16 +53,6 @@ in-runs has (suc n) low high l h e = pick (decLt high n) (λ g. in-runs has n lo
         (Memᴰ·append-right (runsBelow has high)
         (into-map (λ low. rangeOf low high) (lows high) (in-those (λ low. maximalRun has low high) (suc high) low (omega arith) e)))
 
--- where an entry of a list stands
-at-place : {A : Type 0} (d a : A) (l : List A) → List·Memᴰ a l → (i : ℕ) × (i < length l) × (getD l i d ≡ a)
-at-place d a [] m = absurd (List·Memᴰ·not-nil m)
-at-place {A} d a (b ∷ l) m = pick (List·Memᴰ·cases-cons m) (at-place d a l)
-  where
-    pick : (a ≡ b) ⊎ List·Memᴰ a l → (List·Memᴰ a l → (i : ℕ) × (i < length l) × (getD l i d ≡ a))
-        → (i : ℕ) × (i < length (b ∷ l)) × (getD (b ∷ l) i d ≡ a)
-    pick (inl e) later = (0, omega arith, sym e)
-    pick (inr k) later = let s = later k in (suc (s .0), omega (arith, s .1), s .2)
-
 -- a run that ends earlier ends below the other's lowest zoom, with a zoom between them
 run-apart : (zset : ℕ) {a b c d : ℕ} → MaximalRun zset a b → MaximalRun zset c d → b < d → suc b < c
 run-apart zset {a} {b} {c} {d} r s h = pick (decLt (suc b) c)
@@ -101,7 +91,7 @@ module _ (zset : ℕ) where
       → (i : ℕ) × (i < length (runLows zset)) × (getD (runLows zset) i 0 ≡ low) × (getD (runHighs zset) i 0 ≡ high)
   every low high r =
       let m = in-runs (holdsZoom zset) (suc lastZoom) low high (r .ordered) (omega (arith, highest-zoom r)) (says-test zset low high r) in
-      let s = at-place none (rangeOf low high) (runs zset) m in (
+      let s = in-getD (runs zset) none m in (
         s .0,
         omega (arith, s .1, length-map (runs zset) (λ (r : ZoomRange). r .min)),
         low-at (s .0) ∙ ap (λ (r : ZoomRange). r .min) (s .2),

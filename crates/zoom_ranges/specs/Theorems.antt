@@ -65,11 +65,12 @@ pub rust-begins-at-1 : (zoomRanges (setOfZooms (0 ∷ 1 ∷ 2 ∷ 3 ∷ [])) ≡
 unfolding walk runsBelow maximalRun justBelow holdsZoom hasBit allOf fromTo those setOf zoomsIn
 rust-begins-at-1 = (refl, refl)
 
--- "zoom 30 vanishes too": of zoom 0 alone and of zoom 30 alone it gives no run
+-- of zoom 0 alone it gives no run
 pub rust-leaves-out-0 : (zoomRanges 1 ≡ []) × (runs 1 ≡ rangeOf 0 0 ∷ [])
 unfolding walk runsBelow maximalRun justBelow holdsZoom hasBit allOf fromTo those
 rust-leaves-out-0 = (refl, refl)
 
+-- "zoom 30 vanishes too."
 pub rust-leaves-out-30 : (zoomRanges (2 ^ 30) ≡ []) × (runs (2 ^ 30) ≡ rangeOf 30 30 ∷ [])
 unfolding walk runsBelow maximalRun justBelow holdsZoom hasBit allOf fromTo those
 rust-leaves-out-30 = (refl, refl)

@@ -21,6 +21,7 @@ pub fn run() {
     for _ in 0..TURNS / 4 {
         lists::compare(&mut random);
     }
+    zoom::runs_that_differ();
 }
 
 /// A tile of both.

@@ -61,6 +61,22 @@ fn runs(set: u32) {
     assert_eq!(pairs(ours::zoom_ranges(set)), runs);
 }
 
+/// What the original gives for sets that hold zoom 0 or zoom 30, and what is given here.
+pub fn runs_that_differ() {
+    let sets: [(u32, &[(u8, u8)], &[(u8, u8)]); 6] = [
+        (0b1, &[], &[(0, 0)]),
+        (0b11, &[(1, 1)], &[(0, 1)]),
+        (0b1111, &[(1, 3)], &[(0, 3)]),
+        (0b10_111, &[(1, 2), (4, 4)], &[(0, 2), (4, 4)]),
+        (1 << 30, &[], &[(30, 30)]),
+        (3 << 29, &[(29, 29)], &[(29, 30)]),
+    ];
+    for (set, original, here) in sets {
+        assert_eq!(rust_pairs(rust::ZoomSet::new(set).zoom_ranges()), original);
+        assert_eq!(pairs(ours::zoom_ranges(set)), here);
+    }
+}
+
 fn lists(random: &mut Random, set: u32) {
     let zooms: Vec<u8> = (0..random.below(9))
         .map(|_| random.below(31) as u8)
