@@ -1,19 +1,20 @@
 -- Row-major numbers zoom by zoom: where the numbers of a zoom start, that they fit, and the zoom and the place of a number.
-use mathlib.Core.Path.{_≡_, refl, sym, _∙_}
+use mathlib.Core.Path.{_≡_, refl, sym, ap, _∙_}
 use mathlib.Core.Bool.{Bool, true, false, cond}
 use Prim.Native.Nat.{ℕ, zero, suc, _+_, _-_, _*_, _/_, _%_, _^_, _≤_, _<_}
-use native.Mathlib.Decide.{decLe}
+use native.Mathlib.Decide.{decLe, decLt}
 use native.Mathlib.Nat.{lt-of-lt-of-le, pow-suc, mul-div-cancel, mod-lt, div-lt-iff-lt-mul}
 use native.Mathlib.Numerals.{add-one}
 use native.Mathlib.Omega.{arith}
-use lib.Arith.{digits-lt}
+use lib.Arith.{digits-lt, digits-div}
+use lib.Count.{leadingZeros, leading-unique}
 use lib.Dec.{leb}
-use lib.Pow.{pow-pos, pow-mono}
-use borrow.Author.Tests.{le-leb, lt-leb, leb-true, leb-false}
+use lib.Pow.{pow-pos, pow-mono, pow-add}
+use borrow.Author.Tests.{leb-true, leb-false}
 use Rattle.constants.specs.Limits.{maxZoom, maxZoom-small}
 use Rattle.errors.specs.Answer.{_when_}
 use Rattle.tile.specs.OnMap.{OnMap}
-use Rattle.ids.specs.Powers.{four-power}
+use Rattle.ids.specs.Powers.{four-power, four-side}
 use Rattle.ids.specs.Rmid.{levelStart, rmid, rmidLimit, zoomUpTo, zoomOf, rmidRefusal}
 
 pub power-start : (z : ℕ) → 4 ^ z ≡ 3 * levelStart z + 1
@@ -40,6 +41,16 @@ start-mono a (suc b) h = pick (decLe a b) (start-mono a b)
     pick (yes k) f = let i = f k in omega (arith, start-next b)
     pick (no k) f = let e : a ≡ suc b = omega arith in rw e (omega arith)
 
+-- as the code computes it: the number for zoom 31, shifted down
+pub start-shifted : (z : ℕ) → z ≤ 31 → levelStart 31 / 2 ^ (62 - 2 * z) ≡ levelStart z
+start-shifted z h =
+    let k = 31 - z in
+    let d : 62 - 2 * z ≡ 2 * k = omega arith in
+    let s : z + k ≡ 31 = omega arith in
+    let p : 4 ^ 31 ≡ (3 * levelStart z + 1) * 4 ^ k = ap (λ (n : ℕ). 4 ^ n) (sym s) ∙ (pow-add 4 z k ∙ ap (λ (n : ℕ). n * 4 ^ k) (power-start z)) in
+    let e : levelStart 31 ≡ levelStart z * 4 ^ k + levelStart k = omega (arith, power-start 31, p, power-start k) in
+    rw (d, four-side k, e) (digits-div (levelStart z) (omega (arith, power-start k)))
+
 -- the numbers of one zoom lie below those of the next
 pub rmid-below : (x y z : ℕ) → OnMap x y z → rmid x y z < levelStart (suc z)
 rmid-below x y z m = omega (arith, start-next z, four-power z, digits-lt (m .row) (m .column))
@@ -57,17 +68,6 @@ pub rmid-fits : (x y z : ℕ) → OnMap x y z → rmid x y z < 2 ^ 62
 rmid-fits x y z m =
     let l : suc z ≤ 31 = omega (arith, m .zoom, maxZoom-small) in
     omega (arith, rmid-below x y z m, start-small (suc z) l)
-
--- the zoom of a number, from the deepest one up
-pub zoom-here : (n z : ℕ) → 0 < z → levelStart z ≤ n → zoomUpTo n z ≡ z
-unfolding zoomUpTo
-zoom-here n zero h k = absurd (omega arith)
-zoom-here n (suc z) h k = rw (le-leb _ _ k)
-
-pub zoom-above : (n z : ℕ) → 0 < z → n < levelStart z → zoomUpTo n z ≡ zoomUpTo n (z - 1)
-unfolding zoomUpTo
-zoom-above n zero h k = absurd (omega arith)
-zoom-above n (suc z) h k = let e : suc z - 1 ≡ z = omega arith in rw (lt-leb _ _ k, e)
 
 pub record InZoom (n z : ℕ) : Type 0 where
   pub from : levelStart z ≤ n
@@ -92,6 +92,26 @@ one-zoom n y z a b = pick (decLe y z) (decLe z y)
     pick (yes h) (no k) = absurd (omega (arith, start-mono (suc y) z (omega arith), a .below, b .from))
     pick (no h) k = absurd (omega (arith, start-mono (suc z) y (omega arith), b .below, a .from))
 
+-- as the code finds it: of a number of zoom z, 3n + 1 has 2z + 1 or 2z + 2 binary digits
+pub zoom-by-digits : (n z : ℕ) → z ≤ 30 → InZoom n z → (63 - leadingZeros 64 (3 * n + 1)) / 2 ≡ z
+zoom-by-digits n z h i = pick (decLt (3 * n + 1) (2 ^ (2 * z + 1)))
+  where
+    from : 2 ^ (2 * z) ≤ 3 * n + 1
+    from = rw (four-side z) (omega (arith, power-start z, i .from))
+
+    below : 3 * n + 1 < 2 ^ (2 * z + 2)
+    below =
+        let e : 2 * z + 2 ≡ 2 * suc z = omega arith in
+        rw (e, four-side (suc z)) (omega (arith, power-start (suc z), i .below))
+
+    -- a number that ends at its place k from the right has 63 - k zeros before it
+    at : (k : ℕ) → k ≤ 63 → 2 ^ k ≤ 3 * n + 1 → 3 * n + 1 < 2 ^ suc k → leadingZeros 64 (3 * n + 1) ≡ 63 - k
+    at k l a b = sym (leading-unique 64 (3 * n + 1) (63 - k) (suc k) (omega arith) b (rw (pow-suc 2 k) (omega arith)))
+
+    pick : Dec (3 * n + 1 < 2 ^ (2 * z + 1)) → (63 - leadingZeros 64 (3 * n + 1)) / 2 ≡ z
+    pick (yes l) = rw (at (2 * z) (omega arith) from (rw (← add-one (2 * z)) l)) (omega arith)
+    pick (no l) = let e : suc (2 * z + 1) ≡ 2 * z + 2 = omega arith in rw (at (2 * z + 1) (omega arith) (omega arith) (rw e below)) (omega arith)
+
 -- the place within a zoom is a column and a row of it
 pub offset-in-zoom : (n z : ℕ) → InZoom n z → n - levelStart z < 2 ^ z * 2 ^ z
 offset-in-zoom n z h = omega (arith, h .from, h .below, start-next z, four-power z)
@@ -102,10 +122,17 @@ offset-column o z = mod-lt o (pow-pos z)
 pub offset-row : (o z : ℕ) → o < 2 ^ z * 2 ^ z → o / 2 ^ z < 2 ^ z
 offset-row o z h = div-lt-iff-lt-mul (pow-pos z) .1 h
 
--- a number that is not refused lies in its zoom
+-- a number below the limit lies in its zoom, and so does one that is not refused
+pub limit-holds : (n : ℕ) → n < rmidLimit → InZoom n (zoomOf n) × (zoomOf n ≤ maxZoom)
+limit-holds n h = zoom-holds n maxZoom (rw (add-one maxZoom) at h)
+
 pub rmid-holds : (n : ℕ) → rmidRefusal n ≡ 0 → InZoom n (zoomOf n) × (zoomOf n ≤ maxZoom)
-rmid-holds n e = zoom-holds n maxZoom (rw (add-one maxZoom) at (below (leb rmidLimit n) refl e))
+rmid-holds n e = limit-holds n (below (leb rmidLimit n) refl e)
   where
     below : (b : Bool) → leb rmidLimit n ≡ b → 7 when b ≡ 0 → n < rmidLimit
     below true p e = absurd (omega arith)
     below false p e = leb-false _ _ p
+
+-- three times such a number, and one, fits 64 bits
+pub thrice-fits : (n : ℕ) → n < rmidLimit → 3 * n + 1 < 2 ^ 63
+thrice-fits n h = omega (arith, h, start-mono (maxZoom + 1) 31 (omega (arith, maxZoom-small)), power-start 31)

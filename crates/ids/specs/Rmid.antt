@@ -46,5 +46,9 @@ rmidRefusal n = 7 when leb rmidLimit n
 abbrev pub offsetZoomOf : ℕ → Answer OffsetZoom
 offsetZoomOf n = answer (rmidRefusal n) (record { offset = 0; zoom = 0 }) (record { offset = offsetOf n; zoom = zoomOf n })
 
+-- the tile at a number's place in its zoom
+abbrev pub rmidTile : ℕ → Tile
+rmidTile n = tileAt (offsetOf n % 2 ^ zoomOf n) (offsetOf n / 2 ^ zoomOf n) (zoomOf n)
+
 abbrev pub fromRmidOf : ℕ → Answer Tile
-fromRmidOf n = answer (rmidRefusal n) noTile (tileAt (offsetOf n % 2 ^ zoomOf n) (offsetOf n / 2 ^ zoomOf n) (zoomOf n))
+fromRmidOf n = answer (rmidRefusal n) noTile (rmidTile n)

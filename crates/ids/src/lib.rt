@@ -7,11 +7,12 @@ use tile::Tile;
 use tile::TileAnswer;
 ghost use mathlib.Core.Path.{_≡_};
 ghost use Prim.Native.Nat.{_<_, _≤_};
+ghost use lib.Dec.{leb};
 ghost use Rattle.errors.specs.Cases.{u64Case};
 ghost use Rattle.tile.specs.OnMap.{OnMap, tileCase};
 ghost use Rattle.ids.specs.Entry.{entryOf, entryTileOf};
 ghost use Rattle.ids.specs.Id.{idOf, toIdOf, fromIdOf};
-ghost use Rattle.ids.specs.Rmid.{levelStart, toRmidOf, zoomOf, offsetZoomCase, offsetZoomOf, fromRmidOf};
+ghost use Rattle.ids.specs.Rmid.{levelStart, rmid, rmidLimit, toRmidOf, zoomOf, offsetZoomCase, offsetZoomOf, rmidTile, fromRmidOf};
 
 // The number (2^(z + 1) * y + x) * 32 + z of a tile.
 pub fn to_id(x: u32, y: u32, z: u8) -> U64Answer
@@ -86,26 +87,38 @@ pub fn xyz2rmid(x: u32, y: u32, z: u8) -> U64Answer
     ensures { λ r. ⌜ u64Case r ≡ toRmidOf x y z ⌝ }
 {
     match tile::check(x, y, z) {
-        Check::Fine => U64Answer::Number(
-            level_start(z) + (x as u64) + (y as u64) * bits::wide_pow2(z),
-        ),
+        Check::Fine => U64Answer::Number(rmid(x, y, z)),
         Check::Refused(why) => U64Answer::Refused(why),
     }
 }
 
-// How many tiles the zooms above z have together.
+fn rmid(x: u32, y: u32, z: u8) -> u64
+    requires { ⌜ OnMap x y z ⌝ }
+    ensures { λ r. ⌜ r ≡ rmid x y z ⌝ }
+{
+    level_start(z) + (x as u64) + ((y as u64) << z)
+}
+
+// How many tiles the zooms above z have together: the leading 2z binary digits of the number for zoom 31, which are 01 over and over.
 fn level_start(z: u8) -> u64
     requires { ⌜ z ≤ 31 ⌝ }
     ensures { λ r. ⌜ r ≡ levelStart z ⌝ }
 {
-    (bits::wide_pow2(2 * z) - 1) / 3
+    (((1u64 << 62) - 1) / 3) >> (62 - 2 * z)
+}
+
+// Whether a number is too great to be a tile's.
+fn past_limit(i: u64) -> bool
+    ensures { λ r. ⌜ r ≡ leb rmidLimit i ⌝ }
+{
+    i >= level_start(MAX_ZOOM + 1)
 }
 
 // The zoom of a number of `xyz2rmid`, and its offset among the numbers of that zoom.
 pub fn int_2_offset_zoom(i: u64) -> OffsetZoomAnswer
     ensures { λ r. ⌜ offsetZoomCase r ≡ offsetZoomOf i ⌝ }
 {
-    if i >= level_start(MAX_ZOOM + 1) {
+    if past_limit(i) {
         return OffsetZoomAnswer::Refused(Refusal::NoTile);
     }
     let zoom = zoom_of(i);
@@ -115,33 +128,36 @@ pub fn int_2_offset_zoom(i: u64) -> OffsetZoomAnswer
     })
 }
 
-// The deepest zoom whose tiles start at i or before it.
+// The deepest zoom whose tiles start at i or before it: of a number of zoom z, 3i + 1 has 2z + 1 or 2z + 2 binary digits.
 fn zoom_of(i: u64) -> u8
+    requires { ⌜ i < rmidLimit ⌝ }
     ensures { λ r. ⌜ r ≡ zoomOf i ⌝ }
 {
-    let mut z = MAX_ZOOM;
-    while 0 < z {
-        if level_start(z) <= i {
-            return z;
-        }
-        z -= 1;
-    }
-    z
+    ((63 - u64::leading_zeros(3 * i + 1)) / 2) as u8
 }
 
 // The tile of a number of `xyz2rmid`.
 pub fn rmid2xyz(i: u64) -> TileAnswer
     ensures { λ r. ⌜ tileCase r ≡ fromRmidOf i ⌝ }
 {
-    match int_2_offset_zoom(i) {
-        OffsetZoomAnswer::Found(at) => {
-            let columns = bits::wide_pow2(at.zoom);
-            TileAnswer::Found(Tile {
-                x: (at.offset % columns) as u32,
-                y: (at.offset / columns) as u32,
-                z: at.zoom,
-            })
-        }
-        OffsetZoomAnswer::Refused(why) => TileAnswer::Refused(why),
+    if past_limit(i) {
+        return TileAnswer::Refused(Refusal::NoTile);
+    }
+    TileAnswer::Found(rmid_tile(i))
+}
+
+// The place within the zoom is a row above z binary digits, and a column below them.
+fn rmid_tile(i: u64) -> Tile
+    requires { ⌜ i < rmidLimit ⌝ }
+    ensures { λ r. ⌜ r ≡ rmidTile i ⌝ }
+{
+    let z = zoom_of(i);
+    let offset = i - level_start(z);
+    let row = offset >> z;
+    let column = offset - (row << z);
+    Tile {
+        x: column as u32,
+        y: row as u32,
+        z,
     }
 }

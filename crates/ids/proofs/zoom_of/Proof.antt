@@ -1,61 +1,33 @@
--- `ids::zoom_of` meets its contract: the zoom is the one found from z on up.
-use mathlib.Core.Path.{_≡_, refl, sym, _∙_}
-use Prim.Native.Nat.{_≤_}
+-- `ids::zoom_of` meets its contract: three times the number, and one, has two binary digits for each zoom.
+use Prim.Native.Nat.{_+_, _*_}
 use native.Mathlib.Omega.{arith}
+use lib.Count.{leading-top}
 use borrow.Author.Needs.{needs}
-use Rattle.constants.specs.Limits.{maxZoom, maxZoom-small}
-use Rattle.ids.specs.Levels.{zoom-here, zoom-above}
-use Rattle.ids.specs.Rmid.{zoomOf, zoomUpTo}
+use Rattle.constants.specs.Limits.{maxZoom-small}
+use Rattle.ids.specs.Levels.{thrice-fits, zoom-by-digits, limit-holds}
+use Rattle.ids.specs.Rmid.{zoomOf}
 use Rattle.ids.proofs.zoom_of.Statement.{statement}
 use Rattle.ids.proofs.zoom_of.Tie as tie
 
-abbrev Inv-loop : tie.InvT-loop
-Inv-loop i z₀ z = (z ≤ maxZoom) × (zoomOf i ≡ zoomUpTo i z)
+mul-result : tie.Need-mul-result
+mul-result c = omega (arith, thrice-fits (c .args .i) (c .pre))
 
-abbrev μ-loop : tie.MeasureT-loop
-μ-loop i z₀ z = z
+add-result : tie.Need-add-result
+add-result c = omega (arith, thrice-fits (c .args .i) (c .pre))
 
-loop-holds : tie.Need-loop-holds Inv-loop μ-loop
-unfolding maxZoom
-loop-holds c = (omega arith, refl)
+sub-result : tie.Need-sub-result
+sub-result c =
+    let l = thrice-fits (c .args .i) (c .pre) in
+    omega (arith, leading-top 64 (3 * c .args .i + 1) (omega arith) (omega arith) .1)
 
-level-start-requires : tie.Need-level-start-requires Inv-loop μ-loop
-level-start-requires c κs = omega (arith, maxZoom-small)
+cast-result : tie.Need-cast-result
+cast-result c = search needs
 
-returns : tie.Need-returns Inv-loop μ-loop
+returns : tie.Need-returns
 returns c =
-    let i = c .before .before .before .loop .inv .1 in
-    let l = c .before .before .loop-test .taken in
-    sym (i ∙ zoom-here _ _ l (rw (← c .before .level-start .ensures) (c .if1 .taken)))
-
-sub-z : tie.Need-sub-z Inv-loop μ-loop
-sub-z c = search needs
-
-loop-less : tie.Need-loop-less Inv-loop μ-loop
-loop-less c = search needs
-
-loop-again : tie.Need-loop-again Inv-loop μ-loop
-loop-again c =
-    let i = c .before .before .before .loop .inv .1 in
-    let l = c .before .before .loop-test .taken in
-    (omega arith, i ∙ zoom-above _ _ l (rw (← c .before .level-start .ensures) (c .if1 .left)))
-
-returns-2 : tie.Need-returns-2 Inv-loop μ-loop
-unfolding zoomUpTo
-returns-2 c =
-    let e : c .before .loop .z ≡ 0 = omega arith in
-    sym (c .before .loop .inv .1 ∙ rw e)
+    let i = c .args .i in
+    let h = limit-holds i (c .pre) in
+    zoom-by-digits i (zoomOf i) (omega (arith, h .1, maxZoom-small)) (h .0)
 
 pub zoom-of-spec : {M : Type 1} → statement M
-zoom-of-spec =
-    tie.close
-    (tie.spec
-    Inv-loop
-    μ-loop
-    loop-holds
-    level-start-requires
-    returns
-    sub-z
-    loop-less
-    loop-again
-    returns-2)
+zoom-of-spec = tie.close (tie.spec mul-result add-result sub-result cast-result returns)
