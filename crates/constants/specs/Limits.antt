@@ -1,10 +1,15 @@
--- The limits of document 01, and what callers may know of them: the laws, not the numbers.
+-- The limits of the papers, and what callers may know of them: the laws, not the numbers.
+use mathlib.Core.Path.{_≡_, refl}
 use Prim.Native.Nat.{ℕ, _≤_}
 use native.Mathlib.Omega.{arith}
 
 -- the deepest zoom
 unfoldable pub maxZoom : ℕ
-maxZoom = 29
+maxZoom = 30
+
+-- the deepest zoom that has numbers of `to_id`
+unfoldable pub maxIdZoom : ℕ
+maxIdZoom = 29
 
 -- the most entries of a list, of tiles or of zooms
 unfoldable pub maxEntries : ℕ
@@ -12,7 +17,7 @@ maxEntries = 65536
 
 -- the most boxes that are summed
 unfoldable pub maxBoxes : ℕ
-maxBoxes = 32
+maxBoxes = 8
 
 -- the most bytes of a line, without its newline
 unfoldable pub maxLine : ℕ
@@ -35,6 +40,15 @@ maxZoom-small = omega arith
 pub at-least-29 : 29 ≤ maxZoom
 unfolding maxZoom
 at-least-29 = omega arith
+
+-- the zooms that have numbers of `to_id` are among the map's, and are those on which the Rust is compared
+pub id-zooms : maxIdZoom ≤ maxZoom
+unfolding maxZoom maxIdZoom
+id-zooms = omega arith
+
+pub ids-to-29 : maxIdZoom ≡ 29
+unfolding maxIdZoom
+ids-to-29 = refl
 
 -- a line has fewer keys than a list may have entries
 pub lines-in-entries : maxLine ≤ maxEntries

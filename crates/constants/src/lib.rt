@@ -1,13 +1,16 @@
-// The limits of document 01. Each stands here once for the code, and once in specs/ for the promises.
+// The limits of the papers. Each stands here once for the code, and once in specs/ for the promises.
 
 // The deepest zoom.
-pub const MAX_ZOOM: u8 = 29;
+pub const MAX_ZOOM: u8 = 30;
+
+// The deepest zoom that has numbers of `to_id`: below it they would not fit 64 bits.
+pub const MAX_ID_ZOOM: u8 = 29;
 
 // The most entries of a list, of tiles or of zooms.
 pub const MAX_ENTRIES: usize = 65536;
 
 // The most boxes that are summed.
-pub const MAX_BOXES: usize = 32;
+pub const MAX_BOXES: usize = 8;
 
 // The most bytes of a line, without its newline.
 pub const MAX_LINE: usize = 4096;

@@ -3,19 +3,19 @@ use mathlib.Core.Path.{_≡_, refl, sym, ap, _∙_}
 use mathlib.Core.Bool.{Bool, true, false, cond}
 use Prim.Native.Nat.{ℕ, zero, suc, _+_, _-_, _*_, _/_, _%_, _^_, _≤_, _<_}
 use native.Mathlib.Decide.{decLe, decLt}
-use native.Mathlib.Nat.{lt-of-lt-of-le, pow-suc, mul-div-cancel, mod-lt, div-lt-iff-lt-mul}
+use native.Mathlib.Nat.{lt-of-lt-of-le, pow-suc, mul-div-cancel, mod-lt, div-add-mod', div-lt-iff-lt-mul}
 use native.Mathlib.Numerals.{add-one}
 use native.Mathlib.Omega.{arith}
-use lib.Arith.{digits-lt, digits-div}
+use lib.Arith.{digits-lt, digits-div, digits-mod}
 use lib.Count.{leadingZeros, leading-unique}
 use lib.Dec.{leb}
 use lib.Pow.{pow-pos, pow-mono, pow-add}
-use borrow.Author.Tests.{leb-true, leb-false}
+use borrow.Author.Tests.{lt-leb, leb-true, leb-false}
 use Rattle.constants.specs.Limits.{maxZoom, maxZoom-small}
 use Rattle.errors.specs.Answer.{_when_}
-use Rattle.tile.specs.OnMap.{OnMap}
+use Rattle.tile.specs.OnMap.{OnMap, tileAt}
 use Rattle.ids.specs.Powers.{four-power, four-side}
-use Rattle.ids.specs.Rmid.{levelStart, rmid, rmidLimit, zoomUpTo, zoomOf, rmidRefusal}
+use Rattle.ids.specs.Rmid.{levelStart, rmid, rmidLimit, zoomUpTo, zoomOf, offsetOf, rmidRefusal, rmidTile}
 
 pub power-start : (z : ℕ) → 4 ^ z ≡ 3 * levelStart z + 1
 unfolding levelStart
@@ -136,3 +136,36 @@ rmid-holds n e = limit-holds n (below (leb rmidLimit n) refl e)
 -- three times such a number, and one, fits 64 bits
 pub thrice-fits : (n : ℕ) → n < rmidLimit → 3 * n + 1 < 2 ^ 63
 thrice-fits n h = omega (arith, h, start-mono (maxZoom + 1) 31 (omega (arith, maxZoom-small)), power-start 31)
+
+-- every number is that of the tile that it takes apart to: one that is too great, of a place below the deepest zoom's last row
+zoom-starts : (n w : ℕ) → levelStart (zoomUpTo n w) ≤ n
+unfolding zoomUpTo levelStart
+zoom-starts n zero = omega arith
+zoom-starts n (suc w) = pick (leb (levelStart (suc w)) n) refl (zoom-starts n w)
+  where
+    pick : (b : Bool) → leb (levelStart (suc w)) n ≡ b → levelStart (zoomUpTo n w) ≤ n → levelStart (cond b (suc w) (zoomUpTo n w)) ≤ n
+    pick true e f = leb-true _ _ e
+    pick false e f = f
+
+pub rmid-again : (n : ℕ) → rmid (rmidTile n .x) (rmidTile n .y) (rmidTile n .z) ≡ n
+rmid-again n = omega (arith, div-add-mod' (offsetOf n) (2 ^ zoomOf n), zoom-starts n maxZoom)
+
+-- and a tile is the one of its number
+pub rmid-tile-again : (x y z : ℕ) → OnMap x y z → rmidTile (rmid x y z) ≡ tileAt x y z
+rmid-tile-again x y z m =
+    let n = rmid x y z in
+    let h : InZoom n z = record { from = omega arith; below = rmid-below x y z m } in
+    let e : zoomOf n ≡ z = one-zoom n (zoomOf n) z (limit-holds n (rmid-small x y z m) .0) h in
+    let o : n - levelStart z ≡ y * 2 ^ z + x = omega arith in
+    rw (e, o, digits-mod y (m .column), digits-div y (m .column))
+
+-- exactly the numbers of the map's tiles are not refused
+pub rmid-accepted : (n : ℕ) → OnMap (rmidTile n .x) (rmidTile n .y) (rmidTile n .z) → rmidRefusal n ≡ 0
+rmid-accepted n m = let l : n < rmidLimit = rw (rmid-again n) at (rmid-small _ _ _ m) in rw (lt-leb _ _ l)
+
+pub accepted-rmid : (n : ℕ) → rmidRefusal n ≡ 0 → OnMap (rmidTile n .x) (rmidTile n .y) (rmidTile n .z)
+accepted-rmid n e =
+    let h = rmid-holds n e in
+    let o = offsetOf n in
+    let z = zoomOf n in
+    record { zoom = h .1; column = offset-column o z; row = offset-row o z (offset-in-zoom n z (h .0)) }

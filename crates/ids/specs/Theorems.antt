@@ -7,70 +7,86 @@ use native.Mathlib.Decide.{decLt}
 use native.Mathlib.Nat.{mod-eq-of-lt, div-add-mod', lt-of-lt-of-le, mul-div-cancel}
 use native.Mathlib.Numerals.{add-one}
 use native.Mathlib.Omega.{arith}
-use lib.Arith.{digits-div, digits-mod}
 use lib.Dec.{ltb}
 use lib.Pow.{pow-pos, pow-mono, pow-lt}
 use borrow.Author.Tests.{lt-ltb, le-ltb, lt-leb, ne-eqb}
 use Rattle.bits.specs.Checked.{Run, stops, returns, _then_, read, within, plus, minus, shiftUp, fits, minus-fits, one-shifted}
-use Rattle.constants.specs.Limits.{maxZoom, at-least-29}
-use Rattle.tile.specs.OnMap.{OnMap, tileAt, on-map-accepted}
+use Rattle.constants.specs.Limits.{maxZoom, maxIdZoom, at-least-29, ids-to-29}
+use Rattle.tile.specs.OnMap.{OnMap, tileAt, noTile, on-map-accepted}
 use Rattle.tile.specs.Rust.{To29, to-29-on-map, accepted}
 use Rattle.tile.specs.declared.Tile.{Tile}
-use Rattle.ids.specs.Id.{idOf, idTile, idRefusal, toIdOf, fromIdOf}
-use Rattle.ids.specs.IdBits.{offset-below, id-parts, id-again, tile-again, id-accepted, accepted-id}
-use Rattle.ids.specs.Levels.{InZoom, power-start, start-next, start-mono, start-small, rmid-small, rmid-below, rmid-fits, rmid-holds}
+use Rattle.ids.specs.Entry.{entryOf, entryTile, entryRefusal, entryTileOf}
+use Rattle.ids.specs.Id.{HasId, idTileRefusal, idOf, idTile, idRefusal, toIdOf, fromIdOf}
+use Rattle.ids.specs.IdBits.{has-id-accepted, offset-below, offset-small, id-parts, id-again, tile-again}
+use Rattle.ids.specs.IdBits.{id-accepted, id-refused, accepted-id}
+use Rattle.ids.specs.Levels.{InZoom, power-start, start-next, start-mono, start-small, rmid-small, rmid-fits}
 use Rattle.ids.specs.Levels.{zoom-holds, one-zoom, offset-in-zoom, offset-column, offset-row}
+use Rattle.ids.specs.Levels.{rmid-again, rmid-tile-again, accepted-rmid}
 use Rattle.ids.specs.Powers.{double-side, four-power}
-use Rattle.ids.specs.Rmid.{levelStart, rmid, rmidLimit, rmidRefusal, zoomUpTo, zoomOf, offsetOf}
+use Rattle.ids.specs.Rmid.{levelStart, rmid, rmidLimit, rmidRefusal, zoomUpTo, zoomOf, offsetOf, rmidTile}
 use Rattle.ids.specs.Rmid.{toRmidOf, offsetZoomOf, fromRmidOf}
 use Rattle.ids.specs.Rust.{rustToId, rustFromId, rustXyz2rmid, rustLoop, rustOffsetZoom, rustTileAt, rustRmid2xyz}
 use Rattle.ids.specs.declared.OffsetZoom.{OffsetZoom}
 
--- a number that is some tile's
+-- a number of `to_id`
 pub IsId : ℕ → Type 0
-IsId n = (t : Tile) × OnMap (t .x) (t .y) (t .z) × (idOf (t .x) (t .y) (t .z) ≡ n)
+IsId n = (t : Tile) × HasId (t .x) (t .y) (t .z) × (idOf (t .x) (t .y) (t .z) ≡ n)
 
 -- "`from_id` accepts exactly these numbers"
 pub exactly-the-ids-are-accepted : (n : ℕ) → idRefusal n ≡ 0 ↔ IsId n
 unfolding IsId
 exactly-the-ids-are-accepted n = (λ e. (idTile n, accepted-id n e, id-again n), λ s. back (s .0) (s .1) (s .2))
   where
-    back : (t : Tile) → OnMap (t .x) (t .y) (t .z) → idOf (t .x) (t .y) (t .z) ≡ n → idRefusal n ≡ 0
-    back t m e = let f : idTile n ≡ t = ap idTile (sym e) ∙ tile-again (t .x) (t .y) (t .z) m in id-accepted n (rw f m)
+    back : (t : Tile) → HasId (t .x) (t .y) (t .z) → idOf (t .x) (t .y) (t .z) ≡ n → idRefusal n ≡ 0
+    back t m e = let f : idTile n ≡ t = ap idTile (sym e) ∙ tile-again (t .x) (t .y) (t .z) (m .on-map) in id-accepted n (rw f m)
 
 -- each number leads back to its tile
-pub id-leads-back : (x y z : ℕ) → OnMap x y z → fromIdOf (idOf x y z) ≡ record { number = 0; value = tileAt x y z }
+pub id-leads-back : (x y z : ℕ) → HasId x y z → fromIdOf (idOf x y z) ≡ record { number = 0; value = tileAt x y z }
 id-leads-back x y z m =
-    let f = tile-again x y z m in
+    let f = tile-again x y z (m .on-map) in
     rw (id-accepted (idOf x y z) (rw f m), f)
 
--- "accept numbers below 384307168202282325, which is (4^30 − 1)/3": the limit, at zoom 29
-pub the-limit : rmidLimit ≡ 384307168202282325
+-- document 02: "`to_id` doesn't fit 64 bits there": below its deepest zoom the last tile's number would not, and to it each does
+pub ids-fit : (x y z : ℕ) → HasId x y z → idOf x y z < 2 ^ 64
+unfolding idOf
+ids-fit x y z m = omega (arith, offset-small x y z m, m .zoom, ids-to-29)
+
+pub deeper-ids-do-not-fit : let z = maxIdZoom + 1 in 2 ^ 64 ≤ idOf (2 ^ z - 1) (2 ^ z - 1) z
+unfolding idOf maxIdZoom
+deeper-ids-do-not-fit = omega arith
+
+-- "`to_id` and `from_id`, which refuse zoom 30 by 1 and 7"
+pub to-id-refuses-30 : (x y : ℕ) → toIdOf x y 30 ≡ record { number = 1; value = 0 }
+unfolding idTileRefusal maxIdZoom
+to-id-refuses-30 x y = refl
+
+pub from-id-refuses-30 : (n : ℕ) → n % 32 ≡ 30 → fromIdOf n ≡ record { number = 7; value = noTile }
+unfolding idTile maxIdZoom
+from-id-refuses-30 n e = rw (id-refused n (λ m. omega (arith, m .zoom)))
+
+-- "number limits move to (4^31 − 1)/3"
+pub the-limit : rmidLimit ≡ 1537228672809129301
 unfolding levelStart maxZoom
 the-limit = refl
 
 pub rmid-leads-back : (x y z : ℕ) → OnMap x y z → fromRmidOf (rmid x y z) ≡ record { number = 0; value = tileAt x y z }
 rmid-leads-back x y z m =
-    let n = rmid x y z in
-    let h : InZoom n z = record { from = omega arith; below = rmid-below x y z m } in
-    let a = zoom-holds n maxZoom (rw (← add-one maxZoom) (rmid-small x y z m)) in
-    let e : zoomOf n ≡ z = one-zoom n (zoomOf n) z (a .0) h in
-    let o : n - levelStart z ≡ y * 2 ^ z + x = omega arith in
-    rw (lt-leb _ _ (rmid-small x y z m), e, o, digits-mod y (m .column), digits-div y (m .column))
+    let e : rmidRefusal (rmid x y z) ≡ 0 = rw (lt-leb _ _ (rmid-small x y z m)) in
+    rw (e, rmid-tile-again x y z m)
 
 -- a number below the limit is that of the tile that it leads to
 pub rmid-of-the-tile : (n : ℕ) → rmidRefusal n ≡ 0
     → (t : Tile) × OnMap (t .x) (t .y) (t .z) × (rmid (t .x) (t .y) (t .z) ≡ n) × (fromRmidOf n ≡ record { number = 0; value = t })
-rmid-of-the-tile n e =
-    let h = rmid-holds n e in
-    let z = zoomOf n in
-    let o = offsetOf n in
-    let d = div-add-mod' o (2 ^ z) in (
-      tileAt (o % 2 ^ z) (o / 2 ^ z) z,
-      record { zoom = h .1; column = offset-column o z; row = offset-row o z (offset-in-zoom n z (h .0)) },
-      omega (arith, d, h .0 .from),
-      rw e,
-    )
+rmid-of-the-tile n e = (rmidTile n, accepted-rmid n e, rmid-again n, rw e)
+
+-- document 02: "list entries become `xyz2rmid` numbers throughout"
+pub an-entry-is-the-rmid : (x y z : ℕ) → entryOf x y z ≡ rmid x y z
+unfolding entryOf
+an-entry-is-the-rmid x y z = refl
+
+pub an-entry-leads-to-its-tile : (n : ℕ) → entryTileOf n ≡ fromRmidOf n
+unfolding entryTile entryRefusal
+an-entry-leads-to-its-tile n = refl
 
 -- The Rust, by the functions of Rust.antt, in 64 bits: `to_id`
 pub rust-to-id : (x y z : ℕ) → To29 x y z → read accepted (rustToId x y z) ≡ returns (toIdOf x y z)
@@ -88,17 +104,18 @@ rust-to-id x y z m =
       fits 64 (p * y + x) (omega arith),
       fits 64 ((p * y + x) * 32) (omega arith),
       fits 64 ((p * y + x) * 32 + z) (omega (arith, m .zoom)),
-      on-map-accepted (to-29-on-map m),
+      has-id-accepted (record { on-map = to-29-on-map m; zoom = omega (arith, m .zoom, ids-to-29) }),
     )
 
 -- `from_id`, on the numbers that are accepted
-pub rust-from-id : (n : ℕ) → idRefusal n ≡ 0 → idTile n .z ≤ 29 → read accepted (rustFromId n) ≡ returns (fromIdOf n)
-rust-from-id n e h =
+pub rust-from-id : (n : ℕ) → idRefusal n ≡ 0 → read accepted (rustFromId n) ≡ returns (fromIdOf n)
+rust-from-id n e =
     let z = n % 32 in
     let p = n / 32 in
     let d = 2 * 2 ^ z in
-    let l : z ≤ 29 = rw (id-parts n) at h in
-    let m : OnMap (p % d) (p / d) z = rw (id-parts n) at (accepted-id n e) in
+    let has : HasId (p % d) (p / d) z = rw (id-parts n) at (accepted-id n e) in
+    let m = has .on-map in
+    let l : z ≤ 29 = omega (arith, has .zoom, ids-to-29) in
     let side : 2 ^ z ≤ 2 ^ 29 = pow-mono {j = 29} l in
     let pos : 0 < d = omega (arith, pow-pos z) in
     let a : (n - z) / 32 ≡ p = omega arith in

@@ -1,4 +1,5 @@
 // The numbers of fns.rs that stand for tiles: by the Mapbox coverage rule, and row by row from the root on.
+use constants::MAX_ID_ZOOM;
 use constants::MAX_ZOOM;
 use errors::Check;
 use errors::Refusal;
@@ -11,13 +12,16 @@ ghost use lib.Dec.{leb};
 ghost use Rattle.errors.specs.Cases.{u64Case};
 ghost use Rattle.tile.specs.OnMap.{OnMap, tileCase};
 ghost use Rattle.ids.specs.Entry.{entryOf, entryTileOf};
-ghost use Rattle.ids.specs.Id.{idOf, toIdOf, fromIdOf};
+ghost use Rattle.ids.specs.Id.{HasId, idOf, toIdOf, fromIdOf};
 ghost use Rattle.ids.specs.Rmid.{levelStart, rmid, rmidLimit, toRmidOf, zoomOf, offsetZoomCase, offsetZoomOf, rmidTile, fromRmidOf};
 
-// The number (2^(z + 1) * y + x) * 32 + z of a tile.
+// The number (2^(z + 1) * y + x) * 32 + z of a tile, of a zoom where it fits 64 bits.
 pub fn to_id(x: u32, y: u32, z: u8) -> U64Answer
     ensures { λ r. ⌜ u64Case r ≡ toIdOf x y z ⌝ }
 {
+    if z > MAX_ID_ZOOM {
+        return U64Answer::Refused(Refusal::Zoom);
+    }
     match tile::check(x, y, z) {
         Check::Fine => U64Answer::Number(id(x, y, z)),
         Check::Refused(why) => U64Answer::Refused(why),
@@ -25,7 +29,7 @@ pub fn to_id(x: u32, y: u32, z: u8) -> U64Answer
 }
 
 fn id(x: u32, y: u32, z: u8) -> u64
-    requires { ⌜ OnMap x y z ⌝ }
+    requires { ⌜ HasId x y z ⌝ }
     ensures { λ r. ⌜ r ≡ idOf x y z ⌝ }
 {
     (bits::wide_pow2(z + 1) * (y as u64) + (x as u64)) * 32 + (z as u64)
@@ -36,7 +40,7 @@ pub fn from_id(id: u64) -> TileAnswer
     ensures { λ r. ⌜ tileCase r ≡ fromIdOf id ⌝ }
 {
     let z = (id % 32) as u8;
-    if z > MAX_ZOOM {
+    if z > MAX_ID_ZOOM {
         return TileAnswer::Refused(Refusal::NoTile);
     }
     let place = id / 32;
@@ -61,14 +65,14 @@ pub fn entry(x: u32, y: u32, z: u8) -> u64
     requires { ⌜ OnMap x y z ⌝ }
     ensures { λ r. ⌜ r ≡ entryOf x y z ⌝ }
 {
-    id(x, y, z)
+    rmid(x, y, z)
 }
 
 // The tile that a number in a list stands for.
 pub fn entry_tile(entry: u64) -> TileAnswer
     ensures { λ r. ⌜ tileCase r ≡ entryTileOf entry ⌝ }
 {
-    from_id(entry)
+    rmid2xyz(entry)
 }
 
 // A row-major number taken apart: the place within its zoom, and the zoom.

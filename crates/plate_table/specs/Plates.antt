@@ -6,11 +6,11 @@ use mathlib.Core.List.{[], _∷_}
 use Prim.Native.Nat.{_+_, _-_, _^_}
 use Rattle.bits.specs.Tests.{allOf}
 use Rattle.children.specs.Children.{gather}
-use Rattle.constants.specs.Limits.{maxZoom, maxEntries}
+use Rattle.constants.specs.Limits.{maxZoom, maxIdZoom, maxEntries}
 use Rattle.errors.specs.Answer.{written}
 use Rattle.fns.specs.Fns.{parentRefusal, parentOf}
 use Rattle.ids.specs.Entry.{entriesOf}
-use Rattle.ids.specs.Id.{idOf, toIdOf}
+use Rattle.ids.specs.Id.{idOf, idTileRefusal, toIdOf}
 use Rattle.ids.specs.Rmid.{levelStart, toRmidOf}
 use Rattle.merge.specs.Merge.{simplifyV1Of, simplifyOf}
 use Rattle.neighbors.specs.Neighbors.{neighborsWritten}
@@ -82,7 +82,7 @@ abbrev pub Plates : Type 0
 Plates = (p : Plate) → table p .gives ≡ table p .says
 
 pub plates : Plates
-unfolding tileRefusal maxZoom maxEntries keyFrom idOf levelStart parentRefusal gather boxRefusal wrongEdges
+unfolding tileRefusal maxZoom maxIdZoom maxEntries keyFrom idOf idTileRefusal levelStart parentRefusal gather boxRefusal wrongEdges
     boxLength hasBit those setOf zoomsIn anyDeeper fromTo allOf justBelow maximalRun runsBelow holdsZoom allDigits keyRefusal spelled
 plates key-213 = refl
 plates id-2659 = refl

@@ -11,7 +11,7 @@ use lib.Pow.{areBytes}
 use borrow.Author.Tests.{le-leb}
 use Rattle.bits.specs.Bits.{bit}
 use Rattle.bits.specs.Checked.{returns}
-use Rattle.constants.specs.Limits.{maxZoom}
+use Rattle.constants.specs.Limits.{maxZoom, at-least-29}
 use Rattle.errors.specs.Answer.{Answer, answer}
 use Rattle.tile.specs.OnMap.{OnMap, tileAt, noTile, on-map-accepted}
 use Rattle.tile.specs.Rust.{To29}
@@ -122,15 +122,19 @@ pub the-rusts-test : (key : List ℕ) → areBytes key ≡ true → length key �
     → (rust.isQuadkey key ≡ isKey key) × (rust.keyTryNew key ≡ keyRefusal key)
 the-rusts-test key e h = (rust.quadkey-is-key key e h, rust.try-new-refuses key e h)
 
--- of a longer key, whatever its bytes: both refuse it by its length. With a deeper zoom than 29 this would not hold
-pub the-rusts-long-keys : (key : List ℕ) → 29 < length key
+-- of a key that is too long, whatever its bytes: both refuse it by its length,
+pub the-rusts-long-keys : (key : List ℕ) → maxZoom < length key
     → (rust.isQuadkey key ≡ isKey key) × (rust.keyTryNew key ≡ keyRefusal key) × (keyRefusal key ≡ 4)
     × (rust.quadkey2xyz key ≡ returns (keyTile key))
-unfolding maxZoom
 the-rusts-long-keys key h =
-    let r = rust.too-long key h in
+    let r = rust.too-long key (omega (arith, at-least-29)) in
     let e : keyRefusal key ≡ 4 = key-too-long key h in
     (rw (r .0, e), rw (r .1, e), e, rw (r .1, e))
+
+-- and between them lie the keys of zoom 30, which the Rust refuses so, and which are not held against it
+pub the-rust-refuses-30-digits : (key : List ℕ) → length key ≡ 30 → allDigits key ≡ true → (rust.keyTryNew key ≡ 4) × (keyRefusal key ≡ 0)
+unfolding maxZoom
+the-rust-refuses-30-digits key h d = (rust.too-long key (omega arith) .1, key-accepted key (omega arith) d)
 
 -- the tile of a key, by either of its two loops, and with the test before it,
 pub the-rusts-tile : (key : List ℕ) → keyRefusal key ≡ 0 → length key ≤ 29

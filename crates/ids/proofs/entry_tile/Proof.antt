@@ -1,15 +1,15 @@
--- `ids::entry_tile` meets its contract: an entry is the number of `to_id`.
+-- `ids::entry_tile` meets its contract: an entry is the number of `xyz2rmid`.
 use borrow.Author.Needs.{needs}
 use Rattle.ids.specs.Entry.{entryTile, entryRefusal}
 use Rattle.ids.proofs.entry_tile.Statement.{statement}
 use Rattle.ids.proofs.entry_tile.Tie as tie
 
-from-id-requires : tie.Need-from-id-requires
-from-id-requires c κs = search needs
+rmid2xyz-requires : tie.Need-rmid2xyz-requires
+rmid2xyz-requires c κs = search needs
 
 returns : tie.Need-returns
 unfolding entryTile entryRefusal
-returns c = c .from-id .ensures
+returns c = c .rmid2xyz .ensures
 
 pub entry-tile-spec : {M : Type 1} → statement M
-entry-tile-spec = tie.close (tie.spec from-id-requires returns)
+entry-tile-spec = tie.close (tie.spec rmid2xyz-requires returns)

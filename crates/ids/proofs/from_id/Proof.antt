@@ -1,11 +1,11 @@
--- `ids::from_id` meets its contract: each test is one that the tile on the map would pass.
+-- `ids::from_id` meets its contract: each test is one that a tile with such a number would pass.
 use mathlib.Core.Path.{_≡_, _∙_}
 use Prim.Native.Nat.{ℕ, _+_, _-_, _*_, _/_, _%_, _^_, _≤_, _<_}
 use native.Mathlib.Omega.{arith}
 use lib.Pow.{pow-mono}
 use borrow.Author.Needs.{needs}
 use Rattle.bits.specs.Powers.{high-part-below, low-part}
-use Rattle.constants.specs.Limits.{maxZoom, maxZoom-small}
+use Rattle.constants.specs.Limits.{maxIdZoom, ids-to-29, id-zooms}
 use Rattle.ids.specs.Id.{idTile}
 use Rattle.ids.specs.IdBits.{id-accepted, id-refused}
 use Rattle.ids.specs.Powers.{wide-side}
@@ -16,7 +16,7 @@ cast-z : tie.Need-cast-z
 cast-z c = search needs
 
 returns : tie.Need-returns
-unfolding idTile maxZoom
+unfolding idTile maxIdZoom
 returns c = rw (id-refused (c .before .args .id) (λ m. omega (arith, m .zoom)))
 
 wide-pow2-requires : tie.Need-wide-pow2-requires
@@ -26,11 +26,11 @@ abbrev number : tie.After-wide-pow2 → ℕ
 number c = c .before .before .args .id
 
 side : (c : tie.After-wide-pow2) → c .wide-pow2 .result ≡ 2 ^ (number c % 32)
-unfolding maxZoom
+unfolding maxIdZoom
 side c = c .wide-pow2 .ensures ∙ wide-side _ (omega arith)
 
 small : (c : tie.After-wide-pow2) → c .wide-pow2 .result ≤ 2 ^ 30
-small c = rw (side c) (pow-mono {j = 30} (omega (arith, maxZoom-small)))
+small c = rw (side c) (pow-mono {j = 30} (omega (arith, ids-to-29)))
 
 offset-fits : (c : tie.After-wide-pow2) → number c / 32 < 2 ^ 64
 offset-fits c = omega arith
@@ -62,11 +62,11 @@ column c = low-part (number c / 32) (number c % 32 + 1) 64 (offset-fits c)
 
 returns-2 : tie.Need-returns-2
 unfolding idTile
-returns-2 c = rw (id-refused (number (c .before)) (λ m. omega (arith, m .column, side (c .before), column (c .before))))
+returns-2 c = rw (id-refused (number (c .before)) (λ m. omega (arith, m .on-map .column, side (c .before), column (c .before))))
 
 returns-3 : tie.Need-returns-3
 unfolding idTile
-returns-3 c = rw (id-refused (number (c .before .before)) (λ m. omega (arith, m .row, side (c .before .before))))
+returns-3 c = rw (id-refused (number (c .before .before)) (λ m. omega (arith, m .on-map .row, side (c .before .before))))
 
 cast-t14 : tie.Need-cast-t14
 cast-t14 c = omega (arith, small (c .before .before))
@@ -75,13 +75,14 @@ cast-t15 : tie.Need-cast-t15
 cast-t15 c = omega (arith, small (c .before .before))
 
 returns-4 : tie.Need-returns-4
-unfolding idTile maxZoom
+unfolding idTile maxIdZoom
 returns-4 c =
     let w = c .before .before in
     let e = side w in
     let f = column w in
+    let d = c .before .before .before .if1 .left in
     rw (
-      id-accepted (number w) (record { zoom = c .before .before .before .if1 .left; column = omega arith; row = omega arith }),
+      id-accepted (number w) (record { on-map = record { zoom = omega (arith, d, id-zooms); column = omega arith; row = omega arith }; zoom = d }),
       f,
     )
 
