@@ -48,13 +48,16 @@ extern "C" {
 #define NORI_VERSION 300
 
 /* The deepest zoom. */
-#define NORI_MAX_ZOOM 29
+#define NORI_MAX_ZOOM 30
+
+/* The deepest zoom that has numbers of `to_id`: below it they would not fit 64 bits. */
+#define NORI_MAX_ID_ZOOM 29
 
 /* The most entries of a list, of tiles or of zooms. */
 #define NORI_MAX_ENTRIES 65536
 
 /* The most boxes that are summed. */
-#define NORI_MAX_BOXES 32
+#define NORI_MAX_BOXES 8
 
 /* The most bytes of a line, without its newline. */
 #define NORI_MAX_LINE 4096
@@ -287,11 +290,12 @@ NORI_NODISCARD uint8_t nori_neighbors_wrap_x(uint32_t x, uint32_t y, uint8_t z, 
 NORI_NODISCARD uint8_t nori_bbox2zoom(uint32_t west, uint32_t south, uint32_t east, uint32_t north,
                                       uint8_t *zoom);
 
-/* The number (2^(z + 1) * y + x) * 32 + z of a tile.
+/* The number (2^(z + 1) * y + x) * 32 + z of a tile. A zoom above NORI_MAX_ID_ZOOM is refused by
+ * 1: its numbers would not fit 64 bits.
  * Refused: 1, 2. */
 NORI_NODISCARD uint8_t nori_to_id(uint32_t x, uint32_t y, uint8_t z, uint64_t *id);
 
-/* The tile of a number of nori_to_id.
+/* The tile of a number of nori_to_id: none has a zoom above NORI_MAX_ID_ZOOM.
  * Refused: 7. */
 NORI_NODISCARD uint8_t nori_from_id(uint64_t id, uint32_t *tx, uint32_t *ty, uint8_t *tz);
 

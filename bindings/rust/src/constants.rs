@@ -19,7 +19,7 @@ pub fn version() -> u32 {
     never_refused(value(|version| ffi::nori_version(version)))
 }
 
-/// The deepest zoom of a tile, where utiles has 30.
+/// The deepest zoom of a tile, as in utiles, whose quadkeys end one zoom before.
 ///
 /// # Examples
 /// ```
@@ -30,6 +30,19 @@ pub fn version() -> u32 {
 /// assert!(Tile::new(0, 0, MAX_ZOOM + 1).is_err());
 /// ```
 pub const MAX_ZOOM: u8 = ffi::MAX_ZOOM;
+
+/// The deepest zoom whose tiles have a number of [`to_id`](crate::to_id): deeper ones would not fit
+/// 64 bits.
+///
+/// # Examples
+/// ```
+/// use noripliers::constants::MAX_ID_ZOOM;
+/// use noripliers::to_id;
+///
+/// assert!(to_id(0, 0, MAX_ID_ZOOM).is_ok());
+/// assert!(to_id(0, 0, MAX_ID_ZOOM + 1).is_err());
+/// ```
+pub const MAX_ID_ZOOM: u8 = ffi::MAX_ID_ZOOM;
 
 /// The most entries of a list that goes into a call.
 ///
@@ -51,7 +64,7 @@ pub const MAX_ENTRIES: usize = ffi::MAX_ENTRIES;
 /// use noripliers::constants::MAX_BOXES;
 /// use noripliers::{Tile, TileZBoxes};
 ///
-/// assert_eq!(TileZBoxes::try_from(vec![Tile::root().zbox(); MAX_BOXES])?.length(), 32);
+/// assert_eq!(TileZBoxes::try_from(vec![Tile::root().zbox(); MAX_BOXES])?.length(), 8);
 /// assert!(TileZBoxes::try_from(vec![Tile::root().zbox(); MAX_BOXES + 1]).is_err());
 /// # Ok::<(), noripliers::Error>(())
 /// ```

@@ -16,13 +16,13 @@ use crate::ffi;
 ///
 /// let tiles = |keys: &[&str]| keys.iter().map(|key| quadkey2tile(key).unwrap()).collect::<Vec<Tile>>();
 ///
-/// assert_eq!(Tile::new(0, 0, 30), Err(Error::Zoom));
+/// assert_eq!(Tile::new(0, 0, 31), Err(Error::Zoom));
 /// assert_eq!(Tile::new(8, 0, 3), Err(Error::OffMap));
 /// assert_eq!(Tile::root().parent(None), Err(Error::NoRelative));
-/// assert_eq!(quadkey2tile("0".repeat(30)), Err(Error::KeyLength));
+/// assert_eq!(quadkey2tile("0".repeat(31)), Err(Error::KeyLength));
 /// assert_eq!(quadkey2tile("04"), Err(Error::KeyByte));
 /// assert_eq!(simplify(&vec![Tile::root(); 65_537], None), Err(Error::TooMany));
-/// assert_eq!(Tile::from_entry(31), Err(Error::NoTile));
+/// assert_eq!(Tile::from_entry(u64::MAX), Err(Error::NoTile));
 /// assert_eq!(TileZBox::from_tiles(&[]), Err(Error::EmptyList));
 /// assert_eq!(TileZBox::from_tiles(&tiles(&["0", "00"])), Err(Error::MixedZooms));
 /// assert_eq!(TileZBox::new(3, 2, 0, 0, 5), Err(Error::NoBox));
@@ -97,7 +97,7 @@ impl Error {
     /// ```
     /// use noripliers::Tile;
     ///
-    /// assert_eq!(Tile::new(0, 0, 30).unwrap_err().number(), 1);
+    /// assert_eq!(Tile::new(0, 0, 31).unwrap_err().number(), 1);
     /// assert_eq!(Tile::new(8, 0, 3).unwrap_err().number(), 2);
     /// ```
     #[must_use]
@@ -123,8 +123,9 @@ impl fmt::Display for Error {
         match self {
             Error::Zoom => write!(
                 f,
-                "a zoom is above {}, the deepest one, or above 30 in a set of zooms",
-                ffi::MAX_ZOOM
+                "a zoom is above {}, the deepest one, or above {} for a number of to_id",
+                ffi::MAX_ZOOM,
+                ffi::MAX_ID_ZOOM
             ),
             Error::OffMap => write!(f, "x or y is off the map: both are below 2^z"),
             Error::NoRelative => write!(f, "there is no such ancestor or sibling"),

@@ -4,13 +4,16 @@
 pub const VERSION: u32 = 300;
 
 /// The deepest zoom.
-pub const MAX_ZOOM: u8 = 29;
+pub const MAX_ZOOM: u8 = 30;
+
+/// The deepest zoom that has numbers of `to_id`: below it they would not fit 64 bits.
+pub const MAX_ID_ZOOM: u8 = 29;
 
 /// The most entries of a list, of tiles or of zooms.
 pub const MAX_ENTRIES: usize = 65536;
 
 /// The most boxes that are summed.
-pub const MAX_BOXES: usize = 32;
+pub const MAX_BOXES: usize = 8;
 
 /// The most bytes of a line, without its newline.
 pub const MAX_LINE: usize = 4096;
@@ -199,7 +202,7 @@ unsafe extern "C" {
     pub safe fn nori_bbox2zoom(west: u32, south: u32, east: u32, north: u32, zoom: &mut u8) -> u8;
     /// The number (2^(z + 1) * y + x) * 32 + z of a tile.
     pub safe fn nori_to_id(x: u32, y: u32, z: u8, id: &mut u64) -> u8;
-    /// The tile of a number of nori_to_id.
+    /// The tile of a number of nori_to_id: none has a zoom above NORI_MAX_ID_ZOOM.
     pub safe fn nori_from_id(id: u64, tx: &mut u32, ty: &mut u32, tz: &mut u8) -> u8;
     /// The number that stands for a tile in every list of tiles.
     pub safe fn nori_entry(x: u32, y: u32, z: u8, entry: &mut u64) -> u8;

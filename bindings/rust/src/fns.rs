@@ -75,7 +75,7 @@ pub fn parent(x: u32, y: u32, z: u8, n: Option<u8>) -> Result<Tile, Error> {
 /// assert_eq!(columns_and_rows, [(2, 4), (3, 4), (3, 5), (2, 5)]);
 /// assert_eq!(children(1, 2, 2, Some(5))?.len(), 64);
 /// assert_eq!(children(1, 2, 2, Some(0))?, [Tile::new(1, 2, 2)?]);
-/// assert_eq!(children(1, 2, 2, Some(30)), Err(Error::Zoom));
+/// assert_eq!(children(1, 2, 2, Some(31)), Err(Error::Zoom));
 /// # Ok::<(), Error>(())
 /// ```
 pub fn children(x: u32, y: u32, z: u8, zoom: Option<u8>) -> Result<Vec<Tile>, Error> {
@@ -191,24 +191,29 @@ pub fn bbox2zoom((west, south, east, north): (u32, u32, u32, u32)) -> u8 {
     }))
 }
 
-/// The number (2^(z + 1) · y + x) · 32 + z. For lists take [`Tile::entry`].
+/// The number (2^(z + 1) · y + x) · 32 + z. For lists take [`Tile::entry`]. Refused by
+/// [`Error::Zoom`] also at zoom 30, whose numbers would not fit 64 bits.
 ///
 /// # Examples
 /// ```
-/// assert_eq!(noripliers::to_id(3, 5, 3), Ok(2659));
+/// use noripliers::{Error, to_id};
+///
+/// assert_eq!(to_id(3, 5, 3), Ok(2659));
+/// assert_eq!(to_id(0, 0, 30), Err(Error::Zoom));
 /// ```
 pub fn to_id(x: u32, y: u32, z: u8) -> Result<u64, Error> {
     value(|id| ffi::nori_to_id(x, y, z, id))
 }
 
-/// The tile of a number of [`to_id`]. Refused by [`Error::NoTile`].
+/// The tile of a number of [`to_id`]. Refused by [`Error::NoTile`], also where the low five bits,
+/// which are the zoom, are 30.
 ///
 /// # Examples
 /// ```
 /// use noripliers::{Error, Tile, from_id};
 ///
 /// assert_eq!(from_id(2659), Tile::new(3, 5, 3));
-/// assert_eq!(from_id(31), Err(Error::NoTile));
+/// assert_eq!(from_id(30), Err(Error::NoTile));
 /// ```
 pub fn from_id(id: u64) -> Result<Tile, Error> {
     tile::given(|x, y, z| ffi::nori_from_id(id, x, y, z))

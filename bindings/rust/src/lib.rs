@@ -21,7 +21,8 @@
 //! - A [`Tile`] and a [`TileZBox`] always are on the map, so their fields are read by methods, and
 //!   making one can be refused.
 //! - What utiles answers by `None`, by an empty string, by a panic or by a number that has wrapped
-//!   round is an [`Error`] with its number. The deepest zoom is 29.
+//!   round is an [`Error`] with its number. The deepest zoom is 30, and 29 for the numbers of
+//!   [`to_id`].
 //! - Lists of tiles are slices, and come back as a `Vec` in order, where utiles has hash sets.
 //! - The methods of its traits `TileLike`, `TileParent` and `TileChildren1` are the tile's own.
 //! - What needs a sine or a logarithm, and what reads or prints text, is not there.

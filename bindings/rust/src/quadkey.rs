@@ -1,4 +1,4 @@
-//! Quadkeys. A key is text or bytes: whatever is not 0 to 29 of the digits 0, 1, 2 and 3 is refused
+//! Quadkeys. A key is text or bytes: whatever is not 0 to 30 of the digits 0, 1, 2 and 3 is refused
 //! by [`Error::KeyLength`] or [`Error::KeyByte`].
 
 use crate::answer::{lend, never_refused, told};

@@ -39,7 +39,7 @@ pub struct Tile {
 ///
 /// assert_eq!(tile::check(7, 7, 3), Ok(()));
 /// assert_eq!(tile::check(8, 7, 3), Err(Error::OffMap));
-/// assert_eq!(tile::check(8, 7, 30), Err(Error::Zoom));
+/// assert_eq!(tile::check(8, 7, 31), Err(Error::Zoom));
 /// ```
 pub fn check(x: u32, y: u32, z: u8) -> Result<(), Error> {
     accepted(ffi::nori_check(x, y, z))

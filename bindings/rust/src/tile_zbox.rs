@@ -454,7 +454,7 @@ impl IntoIterator for TileZBox {
     }
 }
 
-/// Up to 32 boxes. What several of them have counts several times.
+/// Up to 8 boxes. What several of them have counts several times.
 ///
 /// # Examples
 /// ```
@@ -463,7 +463,7 @@ impl IntoIterator for TileZBox {
 /// let boxes = TileZBoxes::try_from(vec![Tile::root().zbox(), Tile::root().children_zbox(None)?])?;
 /// assert_eq!(boxes.length(), 5);
 /// assert_eq!(boxes.into_iter().count(), 5);
-/// assert_eq!(TileZBoxes::try_from(vec![Tile::root().zbox(); 33]), Err(Error::TooMany));
+/// assert_eq!(TileZBoxes::try_from(vec![Tile::root().zbox(); 9]), Err(Error::TooMany));
 /// # Ok::<(), Error>(())
 /// ```
 #[derive(Clone, Debug, PartialEq, Eq)]

@@ -1,4 +1,4 @@
-//! Zooms, sets of them and ranges. The zooms of a set go to 30, one deeper than a tile's.
+//! Zooms, sets of them and ranges. The zooms of a set go to 30, as a tile's do.
 
 use std::ops::{BitAnd, RangeInclusive};
 

@@ -158,7 +158,7 @@ pub extern "C" fn nori_bbox2zoom(west: u32, south: u32, east: u32, north: u32, z
     c_fns::bbox2zoom(west, south, east, north, zoom)
 }
 
-// The number (2^(z + 1) * y + x) * 32 + z of a tile.
+// The number (2^(z + 1) * y + x) * 32 + z of a tile. A zoom above NORI_MAX_ID_ZOOM is refused by 1: its numbers would not fit 64 bits.
 // Refused: 1, 2.
 #[no_mangle]
 pub extern "C" fn nori_to_id(x: u32, y: u32, z: u8, id: &mut u64) -> u8
@@ -167,7 +167,7 @@ pub extern "C" fn nori_to_id(x: u32, y: u32, z: u8, id: &mut u64) -> u8
     c_ids::to_id(x, y, z, id)
 }
 
-// The tile of a number of nori_to_id.
+// The tile of a number of nori_to_id: none has a zoom above NORI_MAX_ID_ZOOM.
 // Refused: 7.
 #[no_mangle]
 pub extern "C" fn nori_from_id(id: u64, tx: &mut u32, ty: &mut u32, tz: &mut u8) -> u8
