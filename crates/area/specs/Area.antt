@@ -17,7 +17,7 @@ use Rattle.tile_list.specs.List.{listAnswer}
 abbrev pub tilesOf : List ℕ → List Tile
 tilesOf list = map entryTile list
 
--- the zoom-29 tiles inside any listed tile
+-- the deepest tiles inside any listed tile
 abbrev pub groundOf : List ℕ → ℕ → ℕ → Bool
 groundOf list = ground maxZoom (tilesOf list)
 

@@ -1,5 +1,5 @@
 -- Document 01's plain account beside a build. It is fed with the calls alone: the operation, the caller's own lists, which earlier
--- calls' answers go in, and the length of the lent memory. It keeps sets of zoom-29 tiles and sees nothing of what comes back.
+-- calls' answers go in, and the length of the lent memory. It keeps sets of deepest tiles and sees nothing of what comes back.
 use mathlib.Core.Bool.{Bool, false, not, _&&_, _||_}
 use mathlib.Core.List.{List}
 use Prim.Native.Nat.{ℕ, zero, suc, _+_}
@@ -45,7 +45,8 @@ entriesFor kept (own list) = list
 entriesFor kept (earlier i) = settledEntries (setAt kept i)
 
 -- What follows is of a call whose operands stand for these sets, with these entries. "`simplify` keeps the set of the list handed in;
--- union keeps the zoom-29 tiles in either set, common part those in both, difference those in the first and not in the second"
+-- union keeps the zoom-29 tiles in either set, common part those in both, difference those in the first and not in the second";
+-- by document 02 they are zoom-30 tiles
 abbrev pub setKept : (Operand → ℕ → ℕ → Bool) → Operation → ℕ → ℕ → Bool
 setKept set (settling a) X Y = set a X Y
 setKept set (union a b) X Y = set a X Y || set b X Y

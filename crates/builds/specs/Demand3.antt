@@ -1,5 +1,7 @@
 -- Demand 3, as one theorem about whole builds: `demand-3`. What a build is and what comes back of it stands in `Build`, the plain account
 -- in `Account`, what the refusals mean in `Refusals`; ground and settled in the crate `ground`, over any deepest zoom.
+-- Document 02, K11: "Ground is counted in zoom-30 tiles", and "Uniqueness and least length are claimed over zooms 0 to 30". So where
+-- the paper's words below have 29, the statement has `maxZoom`, which is 30.
 use mathlib.Core.Path.{_≡_, refl, sym, ap, ap₂, _∙_, subst}
 use mathlib.Core.Logic.{_↔_}
 use mathlib.Core.Bool.{Bool, true, false, cond, not, _&&_, _||_}

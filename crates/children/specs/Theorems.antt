@@ -114,7 +114,7 @@ each-entry-once family f d {x} {y} {z} m h i j =
         → entryOf (s .x) (s .y) (s .z) ≡ entryOf (t .x) (t .y) (t .z) → s ≡ t
     same s t k l e = sym (back s k) ∙ (ap entryTile e ∙ back t l)
 
--- document 03: "a target above 29 is 1 before 2 and 12", whatever else is wrong; the memory is left as it was
+-- document 03: "a target above 29 is 1 before 2 and 12", above 30 by document 02, whatever else is wrong; the memory is left as it was
 pub a-target-too-deep : (family : List ℕ) (x y z target : ℕ) (memory : List ℕ) → maxZoom < target
     → childrenOf family x y z target memory ≡ record { number = 1; value = 0; memory = memory }
 a-target-too-deep family x y z target memory h = rw (lt-ltb _ _ h)

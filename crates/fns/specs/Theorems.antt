@@ -32,7 +32,7 @@ pub no-such-ancestor : {x y z n : ℕ} → OnMap x y z → z ≤ n → parentOf 
 unfolding parentRefusal
 no-such-ancestor m h = rw (on-map-accepted m, le-leb _ _ h)
 
--- document 03: "a tile off the map is 2 before that, zoom 30 is 1"
+-- document 03: "a tile off the map is 2 before that, zoom 30 is 1"; by document 02 it is zoom 31
 pub off-the-map-first : (x y z n : ℕ) {k : ℕ} → tileRefusal x y z ≡ suc k → parentOf x y z n ≡ record { number = suc k; value = noTile }
 unfolding parentRefusal
 off-the-map-first x y z n e = rw e

@@ -1,4 +1,4 @@
--- The set of zoom-29 tiles that a form's words say: those of the keys' tiles, in either form's set, in both, or in the first only. And
+-- The set of deepest tiles that a form's words say: those of the keys' tiles, in either form's set, in both, or in the first only. And
 -- that an accepted form's area is the settled list of it.
 use mathlib.Core.Path.{_≡_, refl, sym, ap₂, _∙_}
 use mathlib.Core.Bool.{Bool, not, _&&_, _||_}
@@ -20,7 +20,8 @@ use Rattle.merge.specs.Merge.{simplifyOf}
 use Rattle.tile_list.specs.Laws.{accepted-entries}
 use Rattle.tile_list.specs.List.{listRefusal, placesRefusal}
 
--- "union keeps the zoom-29 tiles in either set, common part those in both, difference those in the first and not in the second"
+-- "union keeps the zoom-29 tiles in either set, common part those in both, difference those in the first and not in the second";
+-- by document 02 they are zoom-30 tiles
 abbrev pub kept-by : Verb → Bool → Bool → Bool
 kept-by Plus u v = u || v
 kept-by Both u v = u && v

@@ -18,7 +18,8 @@ use Rattle.tile_set.specs.Holds.{Holds, Valid}
 use Rattle.tile_set.specs.InOrder.{Ordered}
 use Rattle.tile_set.specs.Set.{child, parentTile, whole, inOrder}
 
--- "one is inside a tile of zoom z if its x and y divided by 2^(29 − z), remainders dropped, are that tile's x and y"
+-- "one is inside a tile of zoom z if its x and y divided by 2^(29 − z), remainders dropped, are that tile's x and y": D stands for 29, and
+-- for 30 by document 02, K11: "Ground is counted in zoom-30 tiles"
 abbrev pub inside : ℕ → Tile → ℕ → ℕ → Bool
 inside D t X Y = eqb (X / 2 ^ (D - t .z)) (t .x) && eqb (Y / 2 ^ (D - t .z)) (t .y)
 

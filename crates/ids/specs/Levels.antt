@@ -2,12 +2,12 @@
 use mathlib.Core.Path.{_≡_, refl, sym, ap, _∙_}
 use mathlib.Core.Bool.{Bool, true, false, cond}
 use Prim.Native.Nat.{ℕ, zero, suc, _+_, _-_, _*_, _/_, _%_, _^_, _≤_, _<_}
-use native.Mathlib.Decide.{decLe, decLt}
+use native.Mathlib.Decide.{decLe}
 use native.Mathlib.Nat.{lt-of-lt-of-le, pow-suc, mul-div-cancel, mod-lt, div-add-mod', div-lt-iff-lt-mul}
 use native.Mathlib.Numerals.{add-one}
 use native.Mathlib.Omega.{arith}
 use lib.Arith.{digits-lt, digits-div, digits-mod}
-use lib.Count.{leadingZeros, leading-unique}
+use lib.Count.{leadingZeros, leading-length}
 use lib.Dec.{leb}
 use lib.Pow.{pow-pos, pow-mono, pow-add}
 use borrow.Author.Tests.{lt-leb, leb-true, leb-false}
@@ -92,25 +92,32 @@ one-zoom n y z a b = pick (decLe y z) (decLe z y)
     pick (yes h) (no k) = absurd (omega (arith, start-mono (suc y) z (omega arith), a .below, b .from))
     pick (no h) k = absurd (omega (arith, start-mono (suc z) y (omega arith), b .below, a .from))
 
--- as the code finds it: of a number of zoom z, 3n + 1 has 2z + 1 or 2z + 2 binary digits
-pub zoom-by-digits : (n z : ℕ) → z ≤ 30 → InZoom n z → (63 - leadingZeros 64 (3 * n + 1)) / 2 ≡ z
-zoom-by-digits n z h i = pick (decLt (3 * n + 1) (2 ^ (2 * z + 1)))
+-- as the code finds it: of a number of zoom z, (3n + 1) / 2 has 2z or 2z + 1 binary digits
+pub zoom-by-digits : (n z : ℕ) → z ≤ 30 → InZoom n z → (64 - leadingZeros 64 ((3 * n + 1) / 2)) / 2 ≡ z
+zoom-by-digits n z h i = omega (arith, digits .1, from (decLe (2 * z) (digits .0)), below (decLe (digits .0) (2 * z + 1)))
   where
-    from : 2 ^ (2 * z) ≤ 3 * n + 1
-    from = rw (four-side z) (omega (arith, power-start z, i .from))
+    four : (w : ℕ) → 2 ^ (2 * w) ≡ 3 * levelStart w + 1
+    four w = four-side w ∙ power-start w
 
-    below : 3 * n + 1 < 2 ^ (2 * z + 2)
-    below =
-        let e : 2 * z + 2 ≡ 2 * suc z = omega arith in
-        rw (e, four-side (suc z)) (omega (arith, power-start (suc z), i .below))
+    fits : (3 * n + 1) / 2 < 2 ^ 64
+    fits = omega (arith, i .below, start-small (suc z) (omega arith))
 
-    -- a number that ends at its place k from the right has 63 - k zeros before it
-    at : (k : ℕ) → k ≤ 63 → 2 ^ k ≤ 3 * n + 1 → 3 * n + 1 < 2 ^ suc k → leadingZeros 64 (3 * n + 1) ≡ 63 - k
-    at k l a b = sym (leading-unique 64 (3 * n + 1) (63 - k) (suc k) (omega arith) b (rw (pow-suc 2 k) (omega arith)))
+    digits : (m : ℕ) × (leadingZeros 64 ((3 * n + 1) / 2) + m ≡ 64) × ((3 * n + 1) / 2 < 2 ^ m) × (2 ^ m ≤ 2 * ((3 * n + 1) / 2) + 1)
+    digits = leading-length 64 ((3 * n + 1) / 2) fits
 
-    pick : Dec (3 * n + 1 < 2 ^ (2 * z + 1)) → (63 - leadingZeros 64 (3 * n + 1)) / 2 ≡ z
-    pick (yes l) = rw (at (2 * z) (omega arith) from (rw (← add-one (2 * z)) l)) (omega arith)
-    pick (no l) = let e : suc (2 * z + 1) ≡ 2 * z + 2 = omega arith in rw (at (2 * z + 1) (omega arith) (omega arith) (rw e below)) (omega arith)
+    from : Dec (2 * z ≤ digits .0) → 2 * z ≤ digits .0
+    from (yes l) = l
+    from (no l) =
+        let m = digits .0 in
+        let k : 2 ^ suc m ≤ 2 ^ (2 * z) = pow-mono (omega arith) in
+        absurd (omega (arith, k, pow-suc 2 m, digits .2, four z, i .from))
+
+    below : Dec (digits .0 ≤ 2 * z + 1) → digits .0 ≤ 2 * z + 1
+    below (yes l) = l
+    below (no l) =
+        let m = digits .0 in
+        let k : 2 ^ (2 * suc z) ≤ 2 ^ m = pow-mono (omega arith) in
+        absurd (omega (arith, k, digits .3, four (suc z), i .below))
 
 -- the place within a zoom is a column and a row of it
 pub offset-in-zoom : (n z : ℕ) → InZoom n z → n - levelStart z < 2 ^ z * 2 ^ z

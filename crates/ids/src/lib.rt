@@ -132,12 +132,13 @@ pub fn int_2_offset_zoom(i: u64) -> OffsetZoomAnswer
     })
 }
 
-// The deepest zoom whose tiles start at i or before it: of a number of zoom z, 3i + 1 has 2z + 1 or 2z + 2 binary digits.
+// The deepest zoom whose tiles start at i or before it: of a number of zoom z, (3i + 1) / 2 has 2z or 2z + 1 binary digits. It is 0 for the
+// root, and that is as well: a count that the compiler knew to be of no 0 would wait for the register that it goes to.
 fn zoom_of(i: u64) -> u8
     requires { ⌜ i < rmidLimit ⌝ }
     ensures { λ r. ⌜ r ≡ zoomOf i ⌝ }
 {
-    ((63 - u64::leading_zeros(3 * i + 1)) / 2) as u8
+    ((64 - u64::leading_zeros((3 * i + 1) / 2)) / 2) as u8
 }
 
 // The tile of a number of `xyz2rmid`.

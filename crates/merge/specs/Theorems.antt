@@ -154,7 +154,7 @@ module _ (list : List ℕ) (accepted : allOf isEntry list ≡ true) (m : ℕ) wh
         unchanged m (simplifiedV1 maxZoom m its) simplified-v1-within still,
       )
 
-  -- "Ground": the zoom-29 tiles inside are the same
+  -- "Ground": the deepest tiles inside are the same
   pub simplify-keeps-the-ground : (X Y : ℕ) → Covered maxZoom its X Y ↔ Covered maxZoom (listed simplifiedList) X Y
   simplify-keeps-the-ground X Y =
       rw (an-answer-names-its-set (simplified maxZoom m its) its-simplified-within) (simplify-keeps-ground m its its-within X Y)

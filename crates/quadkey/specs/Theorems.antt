@@ -65,7 +65,7 @@ pub the-bits-by-turns : (x y z : ℕ)
     × (map (λ (d : ℕ). 48 + d) (keyFrom 0 x y z) ≡ keyOf x y z)
 the-bits-by-turns x y z = (λ i h. (even-bit x y z i h, odd-bit x y z i h), base4-small x y z, bytes-of-digits x y z)
 
--- "one of bytes 48 to 51; 0 to 29 digits": exactly these keys are not refused
+-- "one of bytes 48 to 51"; document 02: "keys have up to 30 digits": exactly these keys are not refused
 pub the-accepted-keys : (key : List ℕ)
     → keyRefusal key ≡ 0 ↔ (length key ≤ maxZoom) × ((i : ℕ) → i < length key → (48 ≤ getD key i 0) × (getD key i 0 ≤ 51))
 the-accepted-keys key = (
@@ -73,8 +73,8 @@ the-accepted-keys key = (
   λ k. key-accepted key (k .0) (all-digits key (λ i h. rw (le-leb _ _ (k .1 i h .0), le-leb _ _ (k .1 i h .1)))),
 )
 
--- "4 more than 29 bytes; 5 a byte other than 48 to 51", "The lowest number that applies is given": 4 whatever the bytes are, 5 where
--- the length is right
+-- "4 more than 29 bytes; 5 a byte other than 48 to 51", by document 02 more than 30; "The lowest number that applies is given": 4 whatever
+-- the bytes are, 5 where the length is right
 pub four-is-too-long : (key : List ℕ) → keyRefusal key ≡ 4 ↔ maxZoom < length key
 four-is-too-long key = (refused-long key, key-too-long key)
 

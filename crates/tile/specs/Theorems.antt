@@ -26,7 +26,7 @@ use Rattle.tile.specs.declared.Step.the-variants.{Back, Stay, On}
 use Rattle.tile.specs.declared.Ordering.{Ordering}
 use Rattle.tile.specs.declared.Ordering.the-variants.{Less, Equal, Greater}
 
--- "z ≤ 29, x and y below 2^z": exactly these are not refused
+-- "z ≤ 29, x and y below 2^z"; document 02: "The zoom limit of refusal 1 becomes 30". Exactly these are not refused
 pub the-tiles-of-the-map : (x y z : ℕ) → tileRefusal x y z ≡ 0 ↔ OnMap x y z
 the-tiles-of-the-map x y z = (accepted-on-map x y z, on-map-accepted)
 

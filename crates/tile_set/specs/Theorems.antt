@@ -14,7 +14,8 @@ use Rattle.tile_set.specs.Set.{parentTile, child, whole, joins, joined, 
 use Rattle.tile_set.specs.Simplified.{simplified-simplest}
 use Rattle.tile_set.specs.Uncovered.{uncovered-of, uncovered-covers, uncovered-within}
 
--- "Ground means the zoom-29 tiles inside any listed tile": the tile (X, Y) of the deepest zoom D lies in a tile of the set.
+-- "Ground means the zoom-29 tiles inside any listed tile", zoom-30 by document 02: the tile (X, Y) of the deepest zoom D lies in a tile
+-- of the set.
 -- The crate `ground` has the ground of a list, and that it is what the set of the list's tiles covers.
 abbrev pub Covered : ℕ → (Tile → Bool) → ℕ → ℕ → Type 0
 Covered D S X Y = (t : Tile) × (S t ≡ true) × Holds t (tileAt X Y D)

@@ -1,7 +1,7 @@
--- `ids::zoom_of` meets its contract: three times the number, and one, has two binary digits for each zoom.
-use Prim.Native.Nat.{_+_, _*_}
+-- `ids::zoom_of` meets its contract: half of three times the number and one has two binary digits for each zoom.
+use Prim.Native.Nat.{_+_, _*_, _/_}
 use native.Mathlib.Omega.{arith}
-use lib.Count.{leading-top}
+use lib.Count.{leading-le}
 use borrow.Author.Needs.{needs}
 use Rattle.constants.specs.Limits.{maxZoom-small}
 use Rattle.ids.specs.Levels.{thrice-fits, zoom-by-digits, limit-holds}
@@ -16,9 +16,7 @@ add-result : tie.Need-add-result
 add-result c = omega (arith, thrice-fits (c .args .i) (c .pre))
 
 sub-result : tie.Need-sub-result
-sub-result c =
-    let l = thrice-fits (c .args .i) (c .pre) in
-    omega (arith, leading-top 64 (3 * c .args .i + 1) (omega arith) (omega arith) .1)
+sub-result c = leading-le 64 ((3 * c .args .i + 1) / 2)
 
 cast-result : tie.Need-cast-result
 cast-result c = search needs
