@@ -160,7 +160,7 @@ fn say_length(answer: BoxAnswer) {
 }
 
 fn say_key(x: u32, y: u32, z: u8) {
-    let mut key = [0u8; 29];
+    let mut key = [0u8; 30];
     let n = written(quadkey::xyz2quadkey(x, y, z, &mut key));
     say_front(&key, n);
 }

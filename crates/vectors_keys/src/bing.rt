@@ -7,6 +7,7 @@ use tile::TileAnswer;
 use vectors_lines::tally;
 use vectors_lines::tally::Tally;
 use vectors_lines::text;
+use vectors_lines::text::LONGEST_KEY;
 use vectors_lines::text::Text;
 
 // A tile is 256 pixels wide.
@@ -63,7 +64,7 @@ pub fn tile_3_5(before: Tally) -> Tally {
         text::of_tile(text::none(), quadkey::quadkey2xyz(b"213")),
     );
     tally::asked(b"digits of that quadkey, as many as its level");
-    let mut room = [0u8; 29];
+    let mut room = [0u8; LONGEST_KEY];
     tally::told(
         t,
         b"3",

@@ -6,7 +6,8 @@ use vectors_lines::tally::Tally;
 use vectors_lines::text;
 use vectors_lines::text::Text;
 
-const LONG: [u8; 30] = [b'3'; 30];
+// One digit more than a key may have.
+const LONG: [u8; 31] = [b'3'; 31];
 
 pub fn ancestors(before: Tally) -> Tally {
     let mut t = before;
@@ -18,8 +19,8 @@ pub fn ancestors(before: Tally) -> Tally {
     t = ancestor(t, b"130", 3, b"130");
     t = ancestor(t, b"130", 4, b"refusal 3");
     t = ancestor(t, b"134", 2, b"refusal 5");
-    t = ancestor(t, &LONG, 30, b"refusal 4");
-    ancestor(t, &LONG, 31, b"refusal 3")
+    t = ancestor(t, &LONG, 31, b"refusal 4");
+    ancestor(t, &LONG, 32, b"refusal 3")
 }
 
 fn ancestor(t: Tally, key: &[u8], n: usize, says: &[u8]) -> Tally {
@@ -66,10 +67,10 @@ fn part(refused: u8, bytes: &[u8]) -> Text {
 
 pub fn digits(before: Tally) -> Tally {
     let key = LONG;
-    tally::source(b"Document 01, Plates");
-    tally::asked(b"29 digits");
-    let t = tally::told(before, b"accepted", read(quadkey::quadkey2xyz(&key[..29])));
+    tally::source(b"Document 02, K11: Document 01's plates with 29 and 30 digits become 30 and 31");
     tally::asked(b"30 digits");
+    let t = tally::told(before, b"accepted", read(quadkey::quadkey2xyz(&key[..30])));
+    tally::asked(b"31 digits");
     tally::told(t, b"refusal 4", read(quadkey::quadkey2xyz(&key)))
 }
 

@@ -1,6 +1,7 @@
-// Checks the library against the Bing Maps page's examples and what document 01 says of keys: a line for each says what the source says
-// and what the library gives. The last line counts them, and those that differ.
+// Checks the library against the Bing Maps page's examples and what the papers say of keys and of zoom 30: a line for each says what the
+// source says and what the library gives. The last line counts them, and those that differ.
 mod bing;
+mod deepest;
 mod keys;
 mod pictures;
 
@@ -18,5 +19,7 @@ fn main() {
     t = keys::ancestors(t);
     t = keys::shared(t);
     t = keys::digits(t);
+    t = deepest::keys(t);
+    t = deepest::numbers(t);
     tally::end(t);
 }

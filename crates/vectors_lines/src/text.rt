@@ -9,6 +9,9 @@ use tile::TileAnswer;
 // More bytes than any page's example has.
 const ROOM: usize = 96;
 
+// The digits of a key of the deepest zoom.
+pub const LONGEST_KEY: usize = 30;
+
 // The first bytes, as many as the length says.
 pub struct Text {
     pub bytes: [u8; ROOM],
@@ -97,7 +100,7 @@ pub fn of_tile(t: Text, answer: TileAnswer) -> Text {
 }
 
 pub fn key(t: Text, x: u32, y: u32, z: u8) -> Text {
-    let mut room = [0u8; 29];
+    let mut room = [0u8; LONGEST_KEY];
     match quadkey::xyz2quadkey(x, y, z, &mut room) {
         Count::Counted(n) => put(t, parts::bytes(&room, 0, n)),
         Count::Refused(why) => refusal(t, why),
