@@ -6,7 +6,7 @@ use utiles_core::Tile;
 use utiles_core::merge as rust;
 
 use super::random::Random;
-use super::{all_theirs, tiles};
+use super::{COMPARED, all_theirs, tiles};
 
 pub fn compare(random: &mut Random) {
     let top = random.tile();
@@ -46,7 +46,7 @@ pub fn compare(random: &mut Random) {
 
 /// A tile up to two zooms under another.
 fn under(random: &mut Random, (x, y, z): (u32, u32, u8)) -> (u32, u32, u8) {
-    let depth = random.below(3).min(u64::from(29 - z)) as u8;
+    let depth = random.below(3).min(u64::from(COMPARED - z)) as u8;
     let place = |random: &mut Random, n: u32| (n << depth) + random.below(1 << depth) as u32;
     (place(random, x), place(random, y), z + depth)
 }

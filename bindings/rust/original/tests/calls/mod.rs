@@ -10,6 +10,10 @@ use random::Random;
 
 const TURNS: usize = 4000;
 
+/// The deepest zoom that is compared, and the longest key: the original refuses longer keys, and
+/// the numbers of its `to_id` do not fit 64 bits at the next zoom.
+const COMPARED: u8 = 29;
+
 pub fn run() {
     let mut random = Random::new(7);
     for _ in 0..TURNS {

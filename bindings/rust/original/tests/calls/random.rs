@@ -1,4 +1,6 @@
 //! Random numbers, the same in every run.
+use super::COMPARED;
+
 pub struct Random(u64);
 
 impl Random {
@@ -37,8 +39,13 @@ impl Random {
         (place(), place(), z)
     }
 
+    /// A zoom that is compared.
+    pub fn zoom(&mut self) -> u8 {
+        self.below(u64::from(COMPARED) + 1) as u8
+    }
+
     pub fn tile(&mut self) -> (u32, u32, u8) {
-        let z = self.below(30) as u8;
+        let z = self.zoom();
         self.tile_of(z)
     }
 }

@@ -4,7 +4,7 @@ use utiles_core as rust;
 use utiles_core::tile_zbox::TileZBoxes;
 
 use super::random::Random;
-use super::tiles;
+use super::{COMPARED, tiles};
 
 type Numbers = (u32, u32, u32, u32, u8);
 
@@ -23,9 +23,9 @@ pub fn compare(random: &mut Random) {
             rust_zbox.contains_tile(&rust_tile)
         );
     }
-    if a.4 < 29 {
+    if a.4 < COMPARED {
         same(&zbox.zoom_in().unwrap(), &rust_zbox.zoom_in());
-        let depth = random.below(u64::from(30 - a.4)) as u8;
+        let depth = random.below(u64::from(COMPARED - a.4) + 1) as u8;
         same(
             &zbox.zoom_depth(depth).unwrap(),
             &rust_zbox.zoom_depth(depth),
@@ -103,7 +103,7 @@ fn measured(zbox: &ours::TileZBox, rust: &rust::TileZBox) {
 }
 
 fn spanned(random: &mut Random) {
-    let z = random.below(30) as u8;
+    let z = random.zoom();
     let zooms = if random.below(4) == 0 {
         vec![z, 0]
     } else {

@@ -2,6 +2,7 @@
 use noripliers::zoom as ours;
 use utiles_core::zoom as rust;
 
+use super::COMPARED;
 use super::random::Random;
 
 pub fn compare(random: &mut Random) {
@@ -99,10 +100,8 @@ fn lists(random: &mut Random, set: u32) {
         ours::zoom_bit_rev(zoom),
         Ok(u32::from(rust::ZoomOrZooms::from(zoom)))
     );
-    assert_eq!(
-        ours::zoom_max_xy(zoom.min(29)),
-        Ok(rust::zoom_max_xy(zoom.min(29)))
-    );
+    let zoom = zoom.min(COMPARED);
+    assert_eq!(ours::zoom_max_xy(zoom), Ok(rust::zoom_max_xy(zoom)));
 }
 
 /// Thin, dense, or any, with the two highest bits in half of them.
