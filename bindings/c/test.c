@@ -40,6 +40,29 @@ static void keys(void)
     EXPECT(nori_ancestor_key(key, 3, 2, &count) == 0 && count == 2);
 }
 
+/* The last tile of the deepest zoom, its key and its numbers, and one past each. */
+static void deepest(void)
+{
+    const uint8_t zoom = NORI_MAX_ZOOM;
+    const uint32_t side = (uint32_t)1 << zoom, last = side - 1;
+    const uint64_t tiles = (((uint64_t)1 << (2 * zoom + 2)) - 1) / 3;
+    uint8_t key[NORI_MAX_ZOOM + 1], z = 9;
+    uint64_t number = 9, count = 9;
+    uint32_t x = 9, y = 9;
+    EXPECT(nori_check(last, last, zoom) == 0 && nori_check(last, last, zoom + 1) == NORI_ZOOM);
+    EXPECT(nori_check(side, last, zoom) == NORI_OFF_MAP && nori_check(last, side, zoom) == NORI_OFF_MAP);
+    EXPECT(nori_entry(last, last, zoom, &number) == 0 && number == tiles - 1);
+    EXPECT(nori_xyz2rmid(last, last, zoom, &number) == 0 && number == tiles - 1);
+    EXPECT(nori_entry_tile(tiles - 1, &x, &y, &z) == 0 && x == last && y == last && z == zoom);
+    EXPECT(nori_entry_tile(tiles, &x, &y, &z) == NORI_NO_TILE && nori_rmid2xyz(tiles, &x, &y, &z) == NORI_NO_TILE);
+    EXPECT(nori_to_id(0, 0, NORI_MAX_ID_ZOOM, &number) == 0 && nori_to_id(0, 0, NORI_MAX_ID_ZOOM + 1, &number) == NORI_ZOOM);
+    EXPECT(nori_from_id(NORI_MAX_ID_ZOOM, &x, &y, &z) == 0 && nori_from_id(NORI_MAX_ID_ZOOM + 1, &x, &y, &z) == NORI_NO_TILE);
+    memset(key, '3', sizeof key);
+    EXPECT(nori_quadkey2xyz(key, zoom, &x, &y, &z) == 0 && x == last && y == last && z == zoom);
+    EXPECT(nori_quadkey2xyz(key, sizeof key, &x, &y, &z) == NORI_KEY_LENGTH);
+    EXPECT(nori_xyz2quadkey(last, last, zoom, key, sizeof key, &count) == 0 && count == zoom);
+}
+
 static void lists(void)
 {
     uint64_t four[4], out[6] = {9, 9, 9, 9, 9, 9}, root[1], count = 9;
@@ -86,6 +109,7 @@ int main(void)
 {
     tiles();
     keys();
+    deepest();
     lists();
     boxes_and_zooms();
     lines();

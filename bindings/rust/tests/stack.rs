@@ -46,7 +46,10 @@ const CALLS: [Made; 12] = [
     }),
     ("children, deepest", || {
         let mut out = vec![0; 1 << 20];
-        Box::new(move || assert_eq!(lent::children(5, 9, 19, 29, &mut out), Ok(1 << 20)))
+        Box::new(move || {
+            let count = lent::children(5, 9, MAX_ZOOM - 10, MAX_ZOOM, &mut out);
+            assert_eq!(count, Ok(1 << 20));
+        })
     }),
     ("form, left operands", || {
         on_form(|form, leaf| format!("(minus {form} {leaf})"))

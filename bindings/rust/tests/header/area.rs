@@ -1,5 +1,6 @@
+use crate::deepest::{DIGITS, corner_keys, without};
 use crate::ffi;
-use crate::lists::{NO_TILE, keys};
+use crate::lists::{NO_TILE, in_order, keys};
 use crate::tally::Tally;
 
 type Pair =
@@ -29,15 +30,31 @@ pub fn run(tally: &mut Tally) {
         tally.lists(name, on(call, &[], &[]), &[], 0);
         refused(tally, name, call, &plan);
     }
+    for key in corner_keys() {
+        deepest(tally, &key);
+    }
     settled(tally);
 }
 
-/// By zoom, then column, then row.
-fn in_order<'a>(keys: &[&'a str]) -> Vec<&'a str> {
-    let bits = |key: &str, bit: u8| key.bytes().fold(0, |n, b| 2 * n + u32::from(b >> bit & 1));
-    let mut keys = keys.to_vec();
-    keys.sort_by_key(|key| (key.len(), bits(key, 0), bits(key, 1)));
-    keys
+/// The map, one tile of the deepest zoom, and what is left without it.
+fn deepest(tally: &mut Tally, key: &str) {
+    let (map, tile, left) = (keys(&[""]), keys(&[key]), keys(&in_order(&without(key))));
+    let needs = 3 * DIGITS;
+    let rows: [(_, Pair, _, &[u64], _); 4] = [
+        ("nori_difference", ffi::nori_difference, &map, &left, needs),
+        ("nori_union", ffi::nori_union, &left, &map, needs + 1),
+        (
+            "nori_common_part",
+            ffi::nori_common_part,
+            &left,
+            &[],
+            needs + 1,
+        ),
+        ("nori_common_part", ffi::nori_common_part, &map, &tile, 2),
+    ];
+    for (name, call, a, answer, needs) in rows {
+        tally.lists(name, on(call, a, &tile), answer, needs);
+    }
 }
 
 fn on(call: Pair, a: &[u64], b: &[u64]) -> impl Fn(*mut u64, usize, &mut u64) -> u8 {
@@ -80,6 +97,16 @@ fn settled(tally: &mut Tally) {
     ];
     for (list, told) in rows {
         tally.gives("nori_is_settled", is(keys(list)), told);
+    }
+    // The order of the corners' digits is that of their numbers, but not that of lists.
+    let corners = corner_keys();
+    tally.gives("nori_is_settled", is(keys(&in_order(&corners))), 1);
+    tally.gives("nori_is_settled", is(keys(&corners)), 0);
+    for key in &corners {
+        let mut others = without(key);
+        tally.gives("nori_is_settled", is(keys(&in_order(&others))), 1);
+        others.push(key.clone());
+        tally.gives("nori_is_settled", is(keys(&in_order(&others))), 0);
     }
     tally.refuses("nori_is_settled", is(vec![NO_TILE; 65_537]), 6);
     tally.refuses("nori_is_settled", is(vec![NO_TILE]), 7);

@@ -1,9 +1,11 @@
+use crate::deepest::{CORNERS, DEEPEST, LAST, RMIDS, SIDE, corner_keys, rmid};
 use crate::ffi;
-use crate::lists::{NO_TILE, entries, entry, keys};
+use crate::lists::{entries, keys};
 use crate::tally::Tally;
 use crate::tile::NO_TILES;
 
 type Xyz = (u32, u32, u8);
+type Around = unsafe extern "C" fn(u32, u32, u8, *mut u64, usize, &mut u64) -> u8;
 
 pub fn run(tally: &mut Tally) {
     plain(tally);
@@ -11,10 +13,11 @@ pub fn run(tally: &mut Tally) {
     numbers(tally);
     descendants(tally);
     around(tally);
+    around_corners(tally);
 }
 
 fn plain(tally: &mut Tally) {
-    for zoom in [30, 31, 255] {
+    for zoom in [DEEPEST + 1, 255] {
         tally.refuses(
             "nori_minmax",
             |v: &mut (u32, u32)| ffi::nori_minmax(zoom, &mut v.0, &mut v.1),
@@ -30,16 +33,28 @@ fn plain(tally: &mut Tally) {
     );
     tally.gives(
         "nori_minmax",
-        |v: &mut (u32, u32)| ffi::nori_minmax(29, &mut v.0, &mut v.1),
-        (0, (1 << 29) - 1),
+        |v: &mut (u32, u32)| ffi::nori_minmax(DEEPEST, &mut v.0, &mut v.1),
+        (0, LAST),
     );
-    for (y, row) in [(5, 2), (0, 7), (7, 0)] {
-        tally.gives("nori_flipy", |v| ffi::nori_flipy(y, 3, v), row);
-        tally.gives("nori_yflip", |v| ffi::nori_yflip(y, 3, v), row);
+    let rows = [
+        (5, 3, 2),
+        (0, 3, 7),
+        (7, 3, 0),
+        (0, DEEPEST, LAST),
+        (LAST, DEEPEST, 0),
+    ];
+    for (y, z, row) in rows {
+        tally.gives("nori_flipy", |v| ffi::nori_flipy(y, z, v), row);
+        tally.gives("nori_yflip", |v| ffi::nori_yflip(y, z, v), row);
     }
-    tally.refuses("nori_flipy", |v| ffi::nori_flipy(8, 3, v), 2);
-    tally.refuses("nori_yflip", |v| ffi::nori_yflip(8, 3, v), 2);
+    for (y, z) in [(8, 3), (SIDE, DEEPEST)] {
+        tally.refuses("nori_flipy", |v| ffi::nori_flipy(y, z, v), 2);
+        tally.refuses("nori_yflip", |v| ffi::nori_yflip(y, z, v), 2);
+    }
     tally.gives("nori_valid", |v| ffi::nori_valid(7, 7, 3, v), 1);
+    for (x, y) in CORNERS {
+        tally.gives("nori_valid", |v| ffi::nori_valid(x, y, DEEPEST, v), 1);
+    }
     for (x, y, z, _) in NO_TILES {
         tally.gives("nori_valid", |v| ffi::nori_valid(x, y, z, v), 0);
     }
@@ -63,7 +78,17 @@ fn parents(tally: &mut Tally) {
         |x, y, z, n| move |v: &mut Xyz| ffi::nori_parent(x, y, z, n, &mut v.0, &mut v.1, &mut v.2);
     tally.gives("nori_parent", call(3, 5, 3, 0), (1, 2, 2));
     tally.gives("nori_parent", call(3, 5, 3, 2), (0, 0, 0));
-    tally.gives("nori_parent", call(1 << 28, 3, 29, 27), (1, 0, 1));
+    tally.gives(
+        "nori_parent",
+        call(SIDE / 2, 3, DEEPEST, DEEPEST - 2),
+        (1, 0, 1),
+    );
+    for (x, y) in CORNERS {
+        let parent = (x / 2, y / 2, DEEPEST - 1);
+        tally.gives("nori_parent", call(x, y, DEEPEST, 0), parent);
+        tally.gives("nori_parent", call(x, y, DEEPEST, DEEPEST - 1), (0, 0, 0));
+        tally.refuses("nori_parent", call(x, y, DEEPEST, DEEPEST), 3);
+    }
     for (x, y, z, n) in [(3, 5, 3, 3), (3, 5, 3, 255), (0, 0, 0, 0)] {
         tally.refuses("nori_parent", call(x, y, z, n), 3);
     }
@@ -74,55 +99,67 @@ fn parents(tally: &mut Tally) {
 }
 
 fn numbers(tally: &mut Tally) {
-    let last = (1 << 29) - 1;
-    let rmids = 384_307_168_202_282_325;
-    for (x, y, z, id, rmid) in [
-        (3, 5, 3, 2659, 64),
-        (0, 0, 0, 0, 0),
-        (last, last, 29, last_id(), rmids - 1),
-    ] {
+    ids(tally);
+    let offset =
+        |rmid| move |v: &mut (u64, u8)| ffi::nori_int_2_offset_zoom(rmid, &mut v.0, &mut v.1);
+    let tiles = [
+        (3, 5, 3, 64),
+        (0, 0, 0, 0),
+        (LAST / 2, LAST / 2, DEEPEST - 1, rmid(0, 0, DEEPEST) - 1),
+    ];
+    let corners = CORNERS.map(|(x, y)| (x, y, DEEPEST, rmid(x, y, DEEPEST)));
+    for (x, y, z, rmid) in tiles.into_iter().chain(corners) {
         let xyz = (x, y, z);
-        tally.gives("nori_to_id", |v| ffi::nori_to_id(x, y, z, v), id);
-        tally.gives("nori_from_id", from(ffi::nori_from_id, id), xyz);
         tally.gives("nori_xyz2rmid", |v| ffi::nori_xyz2rmid(x, y, z, v), rmid);
         tally.gives("nori_rmid2xyz", from(ffi::nori_rmid2xyz, rmid), xyz);
-        tally.gives(
-            "nori_entry",
-            |v| ffi::nori_entry(x, y, z, v),
-            entry(x, y, z),
-        );
-        tally.gives(
-            "nori_entry_tile",
-            from(ffi::nori_entry_tile, entry(x, y, z)),
-            xyz,
-        );
+        tally.gives("nori_entry", |v| ffi::nori_entry(x, y, z, v), rmid);
+        tally.gives("nori_entry_tile", from(ffi::nori_entry_tile, rmid), xyz);
+        let place = u64::from(x) + (u64::from(y) << z);
+        tally.gives("nori_int_2_offset_zoom", offset(rmid), (place, z));
     }
     for (x, y, z, number) in NO_TILES {
-        tally.refuses("nori_to_id", |v| ffi::nori_to_id(x, y, z, v), number);
         tally.refuses("nori_xyz2rmid", |v| ffi::nori_xyz2rmid(x, y, z, v), number);
         tally.refuses("nori_entry", |v| ffi::nori_entry(x, y, z, v), number);
     }
-    for id in [30, 31, 32, last_id() + 1, u64::MAX] {
-        tally.refuses("nori_from_id", from(ffi::nori_from_id, id), 7);
-    }
-    tally.refuses("nori_entry_tile", from(ffi::nori_entry_tile, NO_TILE), 7);
-    let offset =
-        |rmid| move |v: &mut (u64, u8)| ffi::nori_int_2_offset_zoom(rmid, &mut v.0, &mut v.1);
-    tally.gives("nori_int_2_offset_zoom", offset(64), (43, 3));
-    tally.gives(
-        "nori_int_2_offset_zoom",
-        offset(rmids - 1),
-        ((1 << 58) - 1, 29),
-    );
-    for rmid in [rmids, u64::MAX] {
+    for rmid in [RMIDS, u64::MAX] {
         tally.refuses("nori_rmid2xyz", from(ffi::nori_rmid2xyz, rmid), 7);
+        tally.refuses("nori_entry_tile", from(ffi::nori_entry_tile, rmid), 7);
         tally.refuses("nori_int_2_offset_zoom", offset(rmid), 7);
     }
 }
 
-fn last_id() -> u64 {
-    let last = (1 << 29) - 1;
-    ((1 << 30) * last + last) * 32 + 29
+/// These numbers end before the deepest zoom.
+fn ids(tally: &mut Tally) {
+    let end = ffi::MAX_ID_ZOOM;
+    let last = (1 << end) - 1;
+    let id = |x, y, z| ((u64::from(y) << (z + 1)) + u64::from(x)) * 32 + u64::from(z);
+    let corners = CORNERS.map(|(x, y)| (x.min(last), y.min(last)));
+    let tiles = [(3, 5, 3, 2659), (0, 0, 0, 0)];
+    let ends = corners.map(|(x, y)| (x, y, end, id(x, y, end)));
+    for (x, y, z, id) in tiles.into_iter().chain(ends) {
+        tally.gives("nori_to_id", |v| ffi::nori_to_id(x, y, z, v), id);
+        tally.gives("nori_from_id", from(ffi::nori_from_id, id), (x, y, z));
+    }
+    for (x, y, z, number) in NO_TILES {
+        let number = if z > end { 1 } else { number };
+        tally.refuses("nori_to_id", |v| ffi::nori_to_id(x, y, z, v), number);
+    }
+    for (x, y) in CORNERS {
+        tally.refuses("nori_to_id", |v| ffi::nori_to_id(x, y, DEEPEST, v), 1);
+    }
+    for (x, y) in corners {
+        // The five low bits are the zoom: 31, and 30.
+        let none = id(x, y, end) | 31;
+        for id in [none, none - 1] {
+            tally.refuses("nori_from_id", from(ffi::nori_from_id, id), 7);
+        }
+    }
+    for (x, y) in [(last + 1, last), (0, last + 1)] {
+        tally.refuses("nori_to_id", |v| ffi::nori_to_id(x, y, end, v), 2);
+    }
+    for id in [30, 31, 32, id(last, last, end) + 32, u64::MAX] {
+        tally.refuses("nori_from_id", from(ffi::nori_from_id, id), 7);
+    }
 }
 
 fn from(
@@ -151,16 +188,22 @@ fn descendants(tally: &mut Tally) {
         };
         let mut below = vec!["21".to_owned()];
         for zoom in 2..6 {
-            let answer = keys(&below.iter().map(String::as_str).collect::<Vec<_>>());
+            let answer = keys(&below);
             tally.lists(name, children(1, 2, 2, zoom), &answer, answer.len());
             below = grown(&below);
         }
         tally.lists(name, children(1, 2, 2, 0), &keys(&["21"]), 1);
-        tally.leaves(name, 0, children(8, 0, 3, 30), 1);
-        tally.leaves(name, 4, children(0, 0, 29, 30), 1);
-        tally.leaves(name, 4, children(0, 0, 0, 29), 12);
+        tally.leaves(name, 0, children(8, 0, 3, DEEPEST + 1), 1);
+        tally.leaves(name, 4, children(0, 0, 0, DEEPEST), 12);
+        for ((x, y), key) in CORNERS.into_iter().zip(corner_keys()) {
+            let four = keys(&order.map(|digit| key[1..].to_owned() + digit));
+            let from_above = children(x / 2, y / 2, DEEPEST - 1, DEEPEST);
+            tally.lists(name, from_above, &four, 4);
+            tally.lists(name, children(x, y, DEEPEST, DEEPEST), &keys(&[key]), 1);
+            tally.leaves(name, 4, children(x, y, DEEPEST, DEEPEST + 1), 1);
+        }
         for (x, y, z, number) in NO_TILES {
-            tally.leaves(name, 4, children(x, y, z, 29), number);
+            tally.leaves(name, 4, children(x, y, z, DEEPEST), number);
         }
     }
     let name = "nori_children1_zorder";
@@ -175,20 +218,26 @@ fn descendants(tally: &mut Tally) {
         &keys(&["210", "211", "212", "213"]),
         4,
     );
-    tally.leaves(name, 4, children1(0, 0, 29), 1);
+    for ((x, y), key) in CORNERS.into_iter().zip(corner_keys()) {
+        let four = keys(&by_digit.map(|digit| key[1..].to_owned() + digit));
+        tally.lists(name, children1(x / 2, y / 2, DEEPEST - 1), &four, 4);
+        tally.leaves(name, 4, children1(x, y, DEEPEST), 1);
+    }
     for (x, y, z, number) in NO_TILES {
+        let number = if z < DEEPEST { number } else { 1 };
         tally.leaves(name, 4, children1(x, y, z), number);
     }
 }
 
+fn at(call: Around, x: u32, y: u32, z: u8) -> impl Fn(*mut u64, usize, &mut u64) -> u8 {
+    move |out, places, count| unsafe { call(x, y, z, out, places, count) }
+}
+
+fn list(z: u8, places: &[(u32, u32)]) -> Vec<u64> {
+    entries(&places.iter().map(|&(x, y)| (x, y, z)).collect::<Vec<_>>())
+}
+
 fn around(tally: &mut Tally) {
-    type Around = unsafe extern "C" fn(u32, u32, u8, *mut u64, usize, &mut u64) -> u8;
-    let at = |call: Around, x, y, z| {
-        move |out, places, count: &mut u64| unsafe { call(x, y, z, out, places, count) }
-    };
-    let list = |z: u8, places: &[(u32, u32)]| {
-        entries(&places.iter().map(|&(x, y)| (x, y, z)).collect::<Vec<_>>())
-    };
     let (siblings, neighbors, wrap) = (
         ffi::nori_siblings,
         ffi::nori_neighbors,
@@ -254,6 +303,36 @@ fn around(tally: &mut Tally) {
         for (x, y, z, number) in NO_TILES {
             tally.leaves(name, 8, at(call, x, y, z), number);
             tally.leaves(name, 0, at(call, x, y, z), number);
+        }
+    }
+}
+
+fn around_corners(tally: &mut Tally) {
+    // The Rust takes the first corner for one, the next two for edges and the last for the middle.
+    let orders = [
+        [(1, 0), (0, 1), (1, 1)],
+        [(LAST, 1), (LAST - 1, 0), (LAST - 1, 1)],
+        [(1, LAST), (0, LAST - 1), (1, LAST - 1)],
+        [(LAST - 1, LAST), (LAST, LAST - 1), (LAST - 1, LAST - 1)],
+    ];
+    for ((x, y), order) in CORNERS.into_iter().zip(orders) {
+        let family = [(x ^ 1, y), (x, y ^ 1), (x ^ 1, y ^ 1)];
+        let (west, east, top) = (x.wrapping_sub(1) % SIDE, (x + 1) % SIDE, y.min(LAST - 1));
+        let columns = [west, x, east].into_iter();
+        let mut wrapped: Vec<_> = columns.flat_map(|x| [(x, top), (x, top + 1)]).collect();
+        wrapped.retain(|&place| place != (x, y));
+        let calls: [(_, Around, &[_]); 3] = [
+            ("nori_siblings", ffi::nori_siblings, &family),
+            ("nori_neighbors", ffi::nori_neighbors, &order),
+            (
+                "nori_neighbors_wrap_x",
+                ffi::nori_neighbors_wrap_x,
+                &wrapped,
+            ),
+        ];
+        for (name, call, places) in calls {
+            let answer = list(DEEPEST, places);
+            tally.lists(name, at(call, x, y, DEEPEST), &answer, answer.len());
         }
     }
 }

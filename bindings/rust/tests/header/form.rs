@@ -1,5 +1,6 @@
+use crate::deepest::{DIGITS, corner_keys, without};
 use crate::ffi;
-use crate::lists::keys;
+use crate::lists::{in_order, keys};
 use crate::tally::{BEHIND, Tally};
 
 /// The lines of the paper, with what is printed for each.
@@ -77,18 +78,41 @@ fn areas(tally: &mut Tally) {
     let many = |n| [b"(tiles".to_vec(), b" 0".repeat(n), b")".to_vec()].concat();
     tally.lists(name, area(&many(256)), &keys(&["0"]), 1);
     tally.leaves(name, 300, area(&many(257)), 12);
-    tally.leaves(
-        name,
-        300,
-        area(b"(tiles 0 000000000000000000000000000000)"),
-        4,
-    );
-    tally.leaves(
-        name,
-        300,
-        area(b"(plus (tiles 4) (tiles 000000000000000000000000000000))"),
-        5,
-    );
+    let too_long = "0".repeat(DIGITS + 1);
+    for (line, number) in [
+        (format!("(tiles 0 {too_long})"), 4),
+        (format!("(plus (tiles 4) (tiles {too_long}))"), 5),
+    ] {
+        tally.leaves(name, 300, area(line.as_bytes()), number);
+        let printed = format!("(refused {number})");
+        tally.lists(
+            "nori_form_answer",
+            answer(line.as_bytes()),
+            printed.as_bytes(),
+            printed.len(),
+        );
+    }
+    for key in corner_keys() {
+        let parent = &key[1..];
+        let family = format!("(tiles {parent}0 {parent}1 {parent}2 {parent}3)");
+        for (line, left) in [
+            (format!("(tiles {key})"), vec![key.clone()]),
+            (family, vec![parent.to_owned()]),
+            (
+                format!("(minus (tiles -) (tiles {key}))"),
+                in_order(&without(&key)),
+            ),
+        ] {
+            tally.lists(name, area(line.as_bytes()), &keys(&left), left.len());
+            let printed = format!("({} {})", left.len(), left.join(" "));
+            tally.lists(
+                "nori_form_answer",
+                answer(line.as_bytes()),
+                printed.as_bytes(),
+                printed.len(),
+            );
+        }
+    }
 }
 
 /// The line of a feed has its own memory beside that of the answers, and is compared too.

@@ -1,26 +1,31 @@
-//! Lists of tiles as entries.
-use crate::ffi;
+//! Lists of tiles as entries: by document 02 the number of a tile counted row by row.
+use crate::deepest::{RMIDS, rmid};
 
-/// No tile's number.
-pub const NO_TILE: u64 = u64::MAX;
-
-pub fn entry(x: u32, y: u32, z: u8) -> u64 {
-    let mut entry = 0;
-    assert_eq!(ffi::nori_entry(x, y, z, &mut entry), 0);
-    entry
-}
+/// The first number that is no tile's.
+pub const NO_TILE: u64 = RMIDS;
 
 pub fn entries(tiles: &[(u32, u32, u8)]) -> Vec<u64> {
-    tiles.iter().map(|&(x, y, z)| entry(x, y, z)).collect()
+    tiles.iter().map(|&(x, y, z)| rmid(x, y, z)).collect()
 }
 
 /// The entries of quadkeys, in the order given.
-pub fn keys(keys: &[&str]) -> Vec<u64> {
-    keys.iter().map(|key| key_entry(key)).collect()
+pub fn keys(keys: &[impl AsRef<str>]) -> Vec<u64> {
+    let entry = |key| {
+        let (z, x, y) = place(key);
+        rmid(x, y, z as u8)
+    };
+    keys.iter().map(|key| entry(key.as_ref())).collect()
 }
 
-fn key_entry(key: &str) -> u64 {
+/// The keys by zoom, then column, then row.
+pub fn in_order<K: AsRef<str> + Clone>(keys: &[K]) -> Vec<K> {
+    let mut keys = keys.to_vec();
+    keys.sort_by_key(|key| place(key.as_ref()));
+    keys
+}
+
+fn place(key: &str) -> (usize, u32, u32) {
     let digit = |(x, y), b: u8| (2 * x + u32::from(b & 1), 2 * y + u32::from(b >> 1 & 1));
     let (x, y) = key.bytes().fold((0, 0), digit);
-    entry(x, y, key.len() as u8)
+    (key.len(), x, y)
 }

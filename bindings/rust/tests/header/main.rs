@@ -5,6 +5,7 @@
 
 mod area;
 mod bbox;
+mod deepest;
 #[allow(
     dead_code,
     reason = "not every limit is needed; that every call is made is tested"

@@ -1,5 +1,6 @@
+use crate::deepest::{DEEPEST, corner_keys, without};
 use crate::ffi;
-use crate::lists::{NO_TILE, keys};
+use crate::lists::{NO_TILE, in_order, keys};
 use crate::tally::Tally;
 
 type Settling = unsafe extern "C" fn(*const u64, usize, u8, *mut u64, usize, &mut u64) -> u8;
@@ -14,6 +15,21 @@ pub fn run(tally: &mut Tally) {
         let list = keys(&["03", "01", "1", "02", "00", "123", "03"]);
         tally.lists(name, settle(call, &list, 0), &keys(&["0", "1"]), 7);
         tally.lists(name, settle(call, &[], 0), &[], 0);
+        let corners = corner_keys();
+        let ordered = keys(&in_order(&corners));
+        tally.lists(name, settle(call, &keys(&corners), 0), &ordered, 4);
+        for key in corners {
+            let answers = [
+                (0, keys(&[""])),
+                (DEEPEST - 1, whole(&key[1..])),
+                (DEEPEST, whole(&key)),
+            ];
+            for (minzoom, answer) in answers {
+                let list: Vec<u64> = whole(&key).into_iter().rev().collect();
+                let places = list.len();
+                tally.lists(name, settle(call, &list, minzoom), &answer, places);
+            }
+        }
         tally.lists(
             name,
             settle(call, &vec![keys(&["0"])[0]; 65_536], 255),
@@ -41,6 +57,13 @@ pub fn run(tally: &mut Tally) {
         &two[..1],
         2,
     );
+}
+
+/// The map, cut so that the tile of a key and its siblings are the only four together.
+fn whole(key: &str) -> Vec<u64> {
+    let mut tiles = without(key);
+    tiles.push(key.to_owned());
+    keys(&in_order(&tiles))
 }
 
 fn settle(call: Settling, list: &[u64], minzoom: u8) -> impl Fn(*mut u64, usize, &mut u64) -> u8 {
@@ -80,6 +103,22 @@ fn merged(tally: &mut Tally) {
         );
         let same = keys(&["1", "00", "02", "01", "03"]);
         tally.writes(name, places, call(list.clone(), 2), (&same, 6, (5, 0)));
+    }
+    for key in corner_keys() {
+        let (list, answer) = (whole(&key), whole(&key[1..]));
+        let (places, count) = (list.len(), answer.len() as u64);
+        tally.writes(
+            name,
+            places,
+            call(list.clone(), DEEPEST - 1),
+            (&answer, places, (count, 1)),
+        );
+        tally.writes(
+            name,
+            places,
+            call(list.clone(), DEEPEST),
+            (&list, places, (places as u64, 0)),
+        );
     }
     tally.writes(name, 0, call(vec![], 0), (&[], 0, (0, 0)));
     tally.leaves(name, 5, call(list.clone(), 0), 12);

@@ -1,3 +1,4 @@
+use crate::deepest::{CORNERS, DEEPEST};
 use crate::ffi;
 use crate::tally::Tally;
 use crate::tile::NO_TILES;
@@ -31,6 +32,12 @@ pub fn run(tally: &mut Tally) {
         next((0, 9, 9, 255)),
         ((0, 0, 0, 0), (0, 0, 0, 0)),
     );
+    for (x, y) in CORNERS {
+        let parent = (1, x / 2, y / 2, DEEPEST - 1);
+        tally.gives("nori_iter_parents", first(x, y, DEEPEST), parent);
+        let held = (1, x, y, DEEPEST);
+        tally.gives("nori_parents_next", next(held), (held, parent));
+    }
     for (x, y, z, number) in NO_TILES {
         tally.refuses("nori_iter_parents", first(x, y, z), number);
         tally.refuses("nori_parents_next", next((1, x, y, z)), number);

@@ -1,3 +1,4 @@
+use crate::deepest::{CORNER_KEYS, CORNERS, DEEPEST, DIGITS, TOO_LONG};
 use crate::ffi;
 use crate::tally::Tally;
 use crate::tile::NO_TILES;
@@ -6,8 +7,8 @@ type Write = unsafe extern "C" fn(u32, u32, u8, *mut u8, usize, &mut u64) -> u8;
 
 /// Bytes that are no key, and the number of the refusal.
 const NO_KEYS: [(&[u8], u8); 5] = [
-    (&[b'0'; 30], 4),
-    (&[b'x'; 30], 4),
+    (&TOO_LONG, 4),
+    (&[b'x'; DIGITS + 1], 4),
     (b"214", 5),
     (b"\0", 5),
     ("2é".as_bytes(), 5),
@@ -20,7 +21,6 @@ pub fn run(tally: &mut Tally) {
 }
 
 fn written(tally: &mut Tally) {
-    let last = (1 << 29) - 1;
     let calls: [(_, Write, u8); 2] = [
         ("nori_xyz2quadkey", ffi::nori_xyz2quadkey, b'0'),
         ("nori_xyz2quadkey_vec", ffi::nori_xyz2quadkey_vec, 0),
@@ -35,7 +35,10 @@ fn written(tally: &mut Tally) {
             &[2, 1, 3].map(|digit| zero + digit),
             3,
         );
-        tally.lists(name, write(0, last, 29), &[zero + 2; 29], 29);
+        for (digit, (x, y)) in (0..).zip(CORNERS) {
+            let key = [zero + digit; DIGITS];
+            tally.lists(name, write(x, y, DEEPEST), &key, DIGITS);
+        }
         tally.lists(name, write(0, 0, 0), &[], 0);
         for (x, y, z, number) in NO_TILES {
             tally.leaves(name, 40, write(x, y, z), number);
@@ -56,12 +59,10 @@ fn read(tally: &mut Tally) {
     let is = |key: &'static [u8]| {
         move |told: &mut u8| unsafe { ffi::nori_is_quadkey(key.as_ptr(), key.len(), told) }
     };
-    let keys: [(&[u8], _); 3] = [
-        (b"213", (3, 5, 3)),
-        (b"", (0, 0, 0)),
-        (&[b'1'; 29], ((1 << 29) - 1, 0, 29)),
-    ];
-    for (key, xyz) in keys {
+    let keys: [(&[u8], _); 2] = [(b"213", (3, 5, 3)), (b"", (0, 0, 0))];
+    let corners = CORNER_KEYS.iter().zip(CORNERS);
+    let corners = corners.map(|(key, (x, y))| (key.as_slice(), (x, y, DEEPEST)));
+    for (key, xyz) in keys.into_iter().chain(corners) {
         tally.gives("nori_quadkey2xyz", tile(key), xyz);
         tally.gives("nori_quadkey_check", check(key), ());
         tally.gives("nori_is_quadkey", is(key), 1);
@@ -82,6 +83,10 @@ fn read(tally: &mut Tally) {
     }
     tally.lists("nori_quadkey_flipy", flip(b"0123"), b"2301", 4);
     tally.lists("nori_quadkey_flipy", flip(b""), b"", 0);
+    for (key, flipped) in CORNER_KEYS.iter().zip([2, 3, 0, 1]) {
+        let flipped = &CORNER_KEYS[flipped];
+        tally.lists("nori_quadkey_flipy", flip(key), flipped, DIGITS);
+    }
 }
 
 fn flip(key: &[u8]) -> impl Fn(*mut u8, usize, &mut u64) -> u8 {
@@ -102,7 +107,8 @@ fn parts(tally: &mut Tally) {
     for (key, n, number) in [
         (&b"0123"[..], 5, 3),
         (b"012x", usize::MAX, 3),
-        (&[b'0'; 30], 31, 3),
+        (&CORNER_KEYS[0], DIGITS + 1, 3),
+        (&TOO_LONG, DIGITS + 2, 3),
     ] {
         tally.refuses("nori_ancestor_key", ancestor(key, n), number);
     }
@@ -111,8 +117,14 @@ fn parts(tally: &mut Tally) {
         tally.refuses("nori_shared_key", shared(key, b"0"), number);
         tally.refuses("nori_shared_key", shared(b"0", key), number);
     }
-    tally.refuses("nori_shared_key", shared(b"x", &[b'0'; 30]), 4);
-    let pairs: [(&[u8], &[u8], u64); 5] = [
+    tally.refuses("nori_shared_key", shared(b"x", &TOO_LONG), 4);
+    for key in &CORNER_KEYS {
+        let length = u64::from(DEEPEST);
+        tally.gives("nori_ancestor_key", ancestor(key, DIGITS), length);
+        tally.gives("nori_shared_key", shared(key, key), length);
+    }
+    let pairs: [(&[u8], &[u8], u64); 6] = [
+        (&CORNER_KEYS[0], &CORNER_KEYS[1], 0),
         (b"0123", b"0121", 3),
         (b"0123", b"01", 2),
         (b"0", b"0123", 1),

@@ -1,22 +1,30 @@
+use crate::deepest::{CORNERS, DEEPEST, LAST, SIDE};
 use crate::ffi;
 use crate::tally::Tally;
 
 type Step = extern "C" fn(u32, u32, u8, &mut u32, &mut u32, &mut u8) -> u8;
 
 /// Columns, rows and zooms that name no tile, and the number of the refusal.
-pub const NO_TILES: [(u32, u32, u8, u8); 6] = [
-    (0, 0, 30, 1),
-    (8, 8, 30, 1),
+pub const NO_TILES: [(u32, u32, u8, u8); 14] = [
+    (0, 0, DEEPEST + 1, 1),
+    (LAST, 0, DEEPEST + 1, 1),
+    (0, LAST, DEEPEST + 1, 1),
+    (LAST, LAST, DEEPEST + 1, 1),
+    (SIDE, SIDE, DEEPEST + 1, 1),
     (0, 0, 255, 1),
+    (SIDE, 0, DEEPEST, 2),
+    (SIDE, LAST, DEEPEST, 2),
+    (0, SIDE, DEEPEST, 2),
+    (LAST, SIDE, DEEPEST, 2),
+    (SIDE, SIDE, DEEPEST, 2),
     (8, 0, 3, 2),
     (0, 8, 3, 2),
     (1, 0, 0, 2),
 ];
 
-const LAST: u32 = (1 << 29) - 1;
-
 pub fn run(tally: &mut Tally) {
-    for (x, y, z) in [(3, 5, 3), (0, 0, 0), (LAST, LAST, 29)] {
+    let corners = CORNERS.map(|(x, y)| (x, y, DEEPEST));
+    for (x, y, z) in [(3, 5, 3), (0, 0, 0)].into_iter().chain(corners) {
         tally.gives(
             "nori_try_new",
             |v: &mut (u32, u32, u8)| placed(ffi::nori_try_new, (x, y, z), v),
@@ -42,6 +50,13 @@ pub fn run(tally: &mut Tally) {
         |v| placed(ffi::nori_flip, (3, 5, 3), v),
         (3, 2, 3),
     );
+    for (x, y, z) in corners {
+        tally.gives(
+            "nori_flip",
+            |v| placed(ffi::nori_flip, (x, y, z), v),
+            (x, LAST - y, z),
+        );
+    }
     orders(tally);
     steps(tally);
 }
@@ -56,6 +71,10 @@ fn orders(tally: &mut Tally) {
         (0, 1, 4),
         (1, 0, 4),
         (1, 1, 4),
+        (0, 0, DEEPEST),
+        (0, LAST, DEEPEST),
+        (LAST, 0, DEEPEST),
+        (LAST, LAST, DEEPEST),
         (u32::MAX, 0, 255),
         (u32::MAX, u32::MAX, 255),
     ];
@@ -86,13 +105,13 @@ fn steps(tally: &mut Tally) {
         for (x, y, z, number) in NO_TILES {
             tally.refuses(name, |v| placed(step, (x, y, z), v), number);
         }
-        for (x, y) in (0..8).flat_map(|x| (0..8).map(move |y| (x, y))) {
-            let (to_x, to_y) = (x + dx, y + dy);
-            let call = |v: &mut (u32, u32, u8)| placed(step, (x as u32, y as u32, 3), v);
-            if (0..8).contains(&to_x) && (0..8).contains(&to_y) {
-                tally.gives(name, call, (to_x as u32, to_y as u32, 3));
-            } else {
-                tally.refuses(name, call, 2);
+        let all = (0..8).flat_map(|x| (0..8).map(move |y| (x, y, 3)));
+        for (x, y, z) in all.chain(CORNERS.map(|(x, y)| (x, y, DEEPEST))) {
+            let to = |n: u32, d| n.checked_add_signed(d).filter(|n| n >> z == 0);
+            let call = |v: &mut (u32, u32, u8)| placed(step, (x, y, z), v);
+            match to(x, dx).zip(to(y, dy)) {
+                Some((x, y)) => tally.gives(name, call, (x, y, z)),
+                None => tally.refuses(name, call, 2),
             }
         }
     }

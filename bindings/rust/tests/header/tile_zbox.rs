@@ -1,3 +1,4 @@
+use crate::deepest::{CORNERS, DEEPEST, LAST, SIDE, TILES};
 use crate::ffi;
 use crate::lists::{NO_TILE, entries};
 use crate::tally::Tally;
@@ -9,9 +10,12 @@ type ToBox =
 type ToPair = extern "C" fn(u8, u32, u32, u32, u32, &mut u32, &mut u32) -> u8;
 
 /// Numbers that make no box, and the number of the refusal.
-const NO_BOXES: [(Box, u8); 6] = [
-    ((30, 0, 0, 0, 0), 1),
+const NO_BOXES: [(Box, u8); 9] = [
+    ((DEEPEST + 1, 0, 0, 0, 0), 1),
+    ((DEEPEST + 1, 0, LAST, 0, LAST), 1),
     ((255, 5, 0, 5, 0), 1),
+    ((DEEPEST, 0, SIDE, 0, LAST), 10),
+    ((DEEPEST, 0, LAST, 0, SIDE), 10),
     ((3, 4, 3, 0, 0), 10),
     ((3, 0, 0, 4, 3), 10),
     ((3, 0, 8, 0, 0), 10),
@@ -19,6 +23,17 @@ const NO_BOXES: [(Box, u8); 6] = [
 ];
 
 const AREA: Box = (3, 1, 3, 5, 6);
+
+/// All of the deepest zoom.
+const WHOLE: Box = (DEEPEST, 0, LAST, 0, LAST);
+
+/// As many boxes as may be summed.
+const MOST: usize = ffi::MAX_BOXES;
+
+/// The box of one tile of the deepest zoom.
+fn only((x, y): (u32, u32)) -> Box {
+    (DEEPEST, x, x, y, y)
+}
 
 pub fn run(tally: &mut Tally) {
     made(tally);
@@ -43,11 +58,8 @@ fn made(tally: &mut Tally) {
             ffi::nori_zbox_from_tile(x, y, z, &mut v.0, &mut v.1, &mut v.2, &mut v.3, &mut v.4)
         }
     };
-    for area in [
-        AREA,
-        (0, 0, 0, 0, 0),
-        (29, 0, (1 << 29) - 1, 0, (1 << 29) - 1),
-    ] {
+    let boxes = [AREA, (0, 0, 0, 0, 0), WHOLE];
+    for area in boxes.into_iter().chain(CORNERS.map(only)) {
         tally.gives("nori_zbox_new", new(area), area);
         tally.gives("nori_zbox_check", check(area), ());
     }
@@ -56,6 +68,10 @@ fn made(tally: &mut Tally) {
         tally.refuses("nori_zbox_check", check(area), number);
     }
     tally.gives("nori_zbox_from_tile", from_tile(3, 5, 3), (3, 3, 3, 5, 5));
+    for (x, y) in CORNERS {
+        let area = only((x, y));
+        tally.gives("nori_zbox_from_tile", from_tile(x, y, DEEPEST), area);
+    }
     for (x, y, z, number) in NO_TILES {
         tally.refuses("nori_zbox_from_tile", from_tile(x, y, z), number);
     }
@@ -77,6 +93,11 @@ fn made_of_lists(tally: &mut Tally) {
         call(entries(&[(3, 5, 3), (1, 6, 3), (2, 5, 3)])),
         AREA,
     );
+    let corners = CORNERS.map(|(x, y)| (x, y, DEEPEST));
+    tally.gives(name, call(entries(&corners)), WHOLE);
+    for (corner, at) in corners.into_iter().zip(CORNERS) {
+        tally.gives(name, call(entries(&[corner])), only(at));
+    }
     tally.gives(
         name,
         call(entries(&vec![(0, 0, 0); 65_536])),
@@ -90,7 +111,6 @@ fn made_of_lists(tally: &mut Tally) {
 
 fn measured(tally: &mut Tally) {
     type ToNumber<T> = extern "C" fn(u8, u32, u32, u32, u32, &mut T) -> u8;
-    let all = (16, 0, 65_535, 0, 65_535);
     let sides: [(_, ToNumber<u32>, u32); 4] = [
         ("nori_zbox_dx", ffi::nori_zbox_dx, 2),
         ("nori_zbox_dy", ffi::nori_zbox_dy, 1),
@@ -100,7 +120,8 @@ fn measured(tally: &mut Tally) {
     for (name, call, side) in sides {
         let of = |(zoom, a, b, c, d): Box| move |v: &mut u32| call(zoom, a, b, c, d, v);
         tally.gives(name, of(AREA), side);
-        tally.gives(name, of(all), 65_535);
+        tally.gives(name, of(WHOLE), LAST);
+        tally.gives(name, of(only((LAST, LAST))), 0);
         for (area, number) in NO_BOXES {
             tally.refuses(name, of(area), number);
         }
@@ -112,20 +133,27 @@ fn measured(tally: &mut Tally) {
     for (name, call) in lengths {
         let of = |(zoom, a, b, c, d): Box| move |v: &mut u64| call(zoom, a, b, c, d, v);
         tally.gives(name, of(AREA), 6);
-        tally.gives(name, of(all), 1 << 32);
+        tally.gives(name, of(WHOLE), TILES);
+        tally.gives(name, of(only((LAST, LAST))), 1);
         for (area, number) in NO_BOXES {
             tally.refuses(name, of(area), number);
         }
     }
-    let pairs: [(_, ToPair, _); 2] = [
-        ("nori_zbox_dxdy", ffi::nori_zbox_dxdy, (2, 1)),
-        ("nori_zbox_dimensions", ffi::nori_zbox_dimensions, (3, 2)),
+    let pairs: [(_, ToPair, _, _); 2] = [
+        ("nori_zbox_dxdy", ffi::nori_zbox_dxdy, (2, 1), LAST),
+        (
+            "nori_zbox_dimensions",
+            ffi::nori_zbox_dimensions,
+            (3, 2),
+            SIDE,
+        ),
     ];
-    for (name, call, pair) in pairs {
+    for (name, call, pair, whole) in pairs {
         let of = |(zoom, a, b, c, d): Box| {
             move |v: &mut (u32, u32)| call(zoom, a, b, c, d, &mut v.0, &mut v.1)
         };
         tally.gives(name, of(AREA), pair);
+        tally.gives(name, of(WHOLE), (whole, whole));
         for (area, number) in NO_BOXES {
             tally.refuses(name, of(area), number);
         }
@@ -161,6 +189,7 @@ fn changed(tally: &mut Tally) {
     tally.gives("nori_zbox_zoom_depth", deeper(AREA, 2), (5, 4, 15, 20, 27));
     for (area, number) in NO_BOXES {
         tally.refuses("nori_zbox_flipy", by(ffi::nori_zbox_flipy, area), number);
+        let number = if area.0 < DEEPEST { number } else { 1 };
         tally.refuses(
             "nori_zbox_zoom_in",
             by(ffi::nori_zbox_zoom_in, area),
@@ -169,12 +198,22 @@ fn changed(tally: &mut Tally) {
         tally.refuses("nori_zbox_zoom_depth", deeper(area, 1), number);
         tally.refuses("nori_zbox_zoom_depth", deeper(area, 255), 1);
     }
-    tally.refuses(
-        "nori_zbox_zoom_in",
-        by(ffi::nori_zbox_zoom_in, (29, 0, 0, 0, 0)),
-        1,
-    );
-    tally.refuses("nori_zbox_zoom_depth", deeper(AREA, 27), 1);
+    let zoom_in = |area| by(ffi::nori_zbox_zoom_in, area);
+    let (half, root) = (LAST / 2, (0, 0, 0, 0, 0));
+    let above = (DEEPEST - 1, 0, half, 0, half);
+    tally.gives("nori_zbox_zoom_in", zoom_in(above), WHOLE);
+    tally.gives("nori_zbox_zoom_depth", deeper(above, 1), WHOLE);
+    tally.gives("nori_zbox_zoom_depth", deeper(root, DEEPEST), WHOLE);
+    tally.refuses("nori_zbox_zoom_depth", deeper(root, DEEPEST + 1), 1);
+    tally.refuses("nori_zbox_zoom_depth", deeper(AREA, DEEPEST - 2), 1);
+    for (x, y) in CORNERS {
+        let area = only((x, y));
+        let flipped = only((x, LAST - y));
+        tally.gives("nori_zbox_flipy", by(ffi::nori_zbox_flipy, area), flipped);
+        tally.gives("nori_zbox_zoom_depth", deeper(area, 0), area);
+        tally.refuses("nori_zbox_zoom_in", zoom_in(area), 1);
+        tally.refuses("nori_zbox_zoom_depth", deeper(area, 1), 1);
+    }
 }
 
 fn held(tally: &mut Tally) {
@@ -190,6 +229,14 @@ fn held(tally: &mut Tally) {
         ((1, 5, 4), 0),
     ] {
         tally.gives(name, call(AREA, tile), told);
+    }
+    for (x, y) in CORNERS {
+        let tile = (x, y, DEEPEST);
+        tally.gives(name, call(WHOLE, tile), 1);
+        for other in CORNERS {
+            let told = u8::from(other == (x, y));
+            tally.gives(name, call(only(other), tile), told);
+        }
     }
     for (area, number) in NO_BOXES {
         tally.refuses(name, call(area, (0, 0, 0)), number);
@@ -213,6 +260,13 @@ fn walked(tally: &mut Tally) {
         tally.gives("nori_zbox_next", next(AREA, i), (1, x, y, 3, i + 1));
     }
     tally.gives("nori_zbox_next", next(AREA, 6), (0, 0, 0, 0, 6));
+    for (x, y) in CORNERS {
+        let before = u64::from(x) + u64::from(y) * u64::from(SIDE);
+        let given = (1, x, y, DEEPEST, before + 1);
+        tally.gives("nori_zbox_next", next(WHOLE, before), given);
+    }
+    tally.gives("nori_zbox_next", next(WHOLE, TILES), (0, 0, 0, 0, TILES));
+    tally.refuses("nori_zbox_next", next(WHOLE, TILES + 1), 10);
     tally.refuses("nori_zbox_next", next(AREA, 7), 10);
     tally.refuses("nori_zbox_next", next(AREA, u64::MAX), 10);
     for (area, number) in NO_BOXES {
@@ -228,11 +282,8 @@ fn hinted(tally: &mut Tally) {
     for before in [0, 1, 6] {
         tally.gives("nori_zbox_size_hint", hint(AREA, before), 6);
     }
-    tally.gives(
-        "nori_zbox_size_hint",
-        hint((16, 0, 65_535, 0, 65_535), 1 << 32),
-        1 << 32,
-    );
+    tally.gives("nori_zbox_size_hint", hint(WHOLE, TILES), TILES);
+    tally.refuses("nori_zbox_size_hint", hint(WHOLE, TILES + 1), 10);
     tally.refuses("nori_zbox_size_hint", hint(AREA, 7), 10);
     for (area, number) in NO_BOXES {
         tally.refuses("nori_zbox_size_hint", hint(area, 0), number);
@@ -251,7 +302,7 @@ fn several(tally: &mut Tally) {
     let two = boxes(&[AREA, (0, 0, 0, 0, 0)]);
     tally.gives("nori_zboxes_length", length(two.clone()), 7);
     tally.gives("nori_zboxes_length", length(vec![]), 0);
-    tally.gives("nori_zboxes_length", length(boxes(&[AREA; 32])), 192);
+    tally.gives("nori_zboxes_length", length(boxes(&[AREA; MOST])), 48);
     tally.lists(
         "nori_zboxes_flipy",
         flip(two.clone()),
@@ -266,22 +317,27 @@ fn several(tally: &mut Tally) {
     tally.refuses("nori_zboxes_next", next(two.clone(), 8), 10);
     tally.gives("nori_zboxes_next", next(vec![], 0), (0, 0, 0, 0, 0));
     tally.refuses("nori_zboxes_next", next(vec![], 1), 10);
-    let whole = (29, 0, (1 << 29) - 1, 0, (1 << 29) - 1);
-    let last = (1, (1 << 29) - 1, (1 << 29) - 1, 29, 1 << 63);
+    let (most, sum) = (boxes(&[WHOLE; MOST]), 1 << 63);
+    tally.gives("nori_zboxes_length", length(most.clone()), sum);
+    tally.lists("nori_zboxes_flipy", flip(most.clone()), &most, most.len());
+    let last = (1, LAST, LAST, DEEPEST, sum);
+    tally.gives("nori_zboxes_next", next(most.clone(), sum - 1), last);
     tally.gives(
         "nori_zboxes_next",
-        next(boxes(&[whole; 32]), (1 << 63) - 1),
-        last,
+        next(most.clone(), sum),
+        (0, 0, 0, 0, sum),
     );
+    tally.refuses("nori_zboxes_next", next(most, sum + 1), 10);
     let mut refused = vec![
-        (boxes(&[AREA; 33]), 6),
+        (boxes(&[AREA; MOST + 1]), 6),
+        (boxes(&[WHOLE; MOST + 1]), 6),
         (vec![256, 0, 0, 0, 0], 1),
         (two[..9].to_vec(), 10),
     ];
     for (area, number) in NO_BOXES {
         refused.push((boxes(&[AREA, area]), number));
         refused.push((
-            boxes(&[[AREA; 32].as_slice(), &[area]].concat()),
+            boxes(&[[AREA; MOST].as_slice(), &[area]].concat()),
             number.min(6),
         ));
     }

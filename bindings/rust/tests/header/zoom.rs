@@ -1,3 +1,4 @@
+use crate::deepest::{DEEPEST, LAST};
 use crate::ffi;
 use crate::tally::{BEHIND, Tally};
 
@@ -151,10 +152,10 @@ fn single(tally: &mut Tally) {
     tally.gives("nori_zoom_max_xy", |v| ffi::nori_zoom_max_xy(0, v), 0);
     tally.gives(
         "nori_zoom_max_xy",
-        |v| ffi::nori_zoom_max_xy(29, v),
-        (1 << 29) - 1,
+        |v| ffi::nori_zoom_max_xy(DEEPEST, v),
+        LAST,
     );
-    for zoom in [30, 255] {
+    for zoom in [DEEPEST + 1, 255] {
         tally.refuses("nori_zoom_max_xy", |v| ffi::nori_zoom_max_xy(zoom, v), 1);
     }
     for zoom in 0..=30 {
