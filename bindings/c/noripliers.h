@@ -45,7 +45,7 @@ extern "C" {
 #endif
 
 /* The version: 10,000 for each major number, 100 for each minor one, 1 for each patch. */
-#define NORI_VERSION 300
+#define NORI_VERSION 400
 
 /* The deepest zoom. */
 #define NORI_MAX_ZOOM 30

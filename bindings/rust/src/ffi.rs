@@ -1,7 +1,7 @@
 //! The functions of the archive, as bindings/c/noripliers.h declares them. Written by tools/bindings.
 
 /// The version: 10,000 for each major number, 100 for each minor one, 1 for each patch.
-pub const VERSION: u32 = 300;
+pub const VERSION: u32 = 400;
 
 /// The deepest zoom.
 pub const MAX_ZOOM: u8 = 30;
