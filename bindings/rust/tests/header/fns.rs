@@ -1,4 +1,4 @@
-use crate::deepest::{CORNERS, DEEPEST, LAST, RMIDS, SIDE, corner_keys, rmid};
+use crate::deepest::{CORNERS, DEEPEST, DIGITS, LAST, RMIDS, SIDE, corner_keys, rmid};
 use crate::ffi;
 use crate::lists::{entries, keys};
 use crate::tally::Tally;
@@ -196,7 +196,7 @@ fn descendants(tally: &mut Tally) {
         tally.leaves(name, 0, children(8, 0, 3, DEEPEST + 1), 1);
         tally.leaves(name, 4, children(0, 0, 0, DEEPEST), 12);
         for ((x, y), key) in CORNERS.into_iter().zip(corner_keys()) {
-            let four = keys(&order.map(|digit| key[1..].to_owned() + digit));
+            let four = keys(&order.map(|digit| key[..DIGITS - 1].to_owned() + digit));
             let from_above = children(x / 2, y / 2, DEEPEST - 1, DEEPEST);
             tally.lists(name, from_above, &four, 4);
             tally.lists(name, children(x, y, DEEPEST, DEEPEST), &keys(&[key]), 1);
@@ -219,7 +219,7 @@ fn descendants(tally: &mut Tally) {
         4,
     );
     for ((x, y), key) in CORNERS.into_iter().zip(corner_keys()) {
-        let four = keys(&by_digit.map(|digit| key[1..].to_owned() + digit));
+        let four = keys(&by_digit.map(|digit| key[..DIGITS - 1].to_owned() + digit));
         tally.lists(name, children1(x / 2, y / 2, DEEPEST - 1), &four, 4);
         tally.leaves(name, 4, children1(x, y, DEEPEST), 1);
     }

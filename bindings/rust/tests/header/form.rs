@@ -93,7 +93,7 @@ fn areas(tally: &mut Tally) {
         );
     }
     for key in corner_keys() {
-        let parent = &key[1..];
+        let parent = &key[..DIGITS - 1];
         let family = format!("(tiles {parent}0 {parent}1 {parent}2 {parent}3)");
         for (line, left) in [
             (format!("(tiles {key})"), vec![key.clone()]),
@@ -179,6 +179,12 @@ fn fed(tally: &mut Tally) {
         100,
         (b"(1 0)\n(refused 5)\n", b"(til", chunk.len()),
     );
+    for key in corner_keys() {
+        let chunk = format!("(tiles {key})\n(tiles {key}0)\n");
+        let printed = format!("(1 {key})\n(refused 4)\n");
+        let expected = (printed.as_bytes(), &b""[..], chunk.len());
+        feed(tally, b"", chunk.as_bytes(), printed.len(), expected);
+    }
     feed(tally, b"", b"", 0, (b"", b"", 0));
     feed(tally, b"(tiles", b" 0)", 0, (b"", b"(tiles 0)", 3));
     feed(tally, b"(tiles 0)", b"\n", 6, (b"(1 0)\n", b"", 1));
@@ -202,13 +208,23 @@ fn fed(tally: &mut Tally) {
 }
 
 fn finished(tally: &mut Tally) {
-    let finish = |line: &'static [u8]| {
-        let mut kept = [b'x'; ffi::KEPT];
-        kept[..line.len()].copy_from_slice(line);
+    let finish = |line: &[u8]| {
+        let (mut kept, length) = ([b'x'; ffi::KEPT], line.len());
+        kept[..length].copy_from_slice(line);
         move |out, places, count: &mut u64| unsafe {
-            ffi::nori_form_finish(&kept, line.len(), out, places, count)
+            ffi::nori_form_finish(&kept, length, out, places, count)
         }
     };
+    for key in corner_keys() {
+        let line = format!("(tiles {key})");
+        let printed = format!("(1 {key})\n");
+        tally.lists(
+            "nori_form_finish",
+            finish(line.as_bytes()),
+            printed.as_bytes(),
+            printed.len(),
+        );
+    }
     tally.lists("nori_form_finish", finish(b"(tiles 0)"), b"(1 0)\n", 6);
     tally.lists("nori_form_finish", finish(b""), b"", 0);
     tally.lists(

@@ -1,4 +1,4 @@
-use crate::deepest::{DEEPEST, corner_keys, without};
+use crate::deepest::{DEEPEST, DIGITS, corner_keys, without};
 use crate::ffi;
 use crate::lists::{NO_TILE, in_order, keys};
 use crate::tally::Tally;
@@ -21,7 +21,7 @@ pub fn run(tally: &mut Tally) {
         for key in corners {
             let answers = [
                 (0, keys(&[""])),
-                (DEEPEST - 1, whole(&key[1..])),
+                (DEEPEST - 1, whole(&key[..DIGITS - 1])),
                 (DEEPEST, whole(&key)),
             ];
             for (minzoom, answer) in answers {
@@ -105,7 +105,7 @@ fn merged(tally: &mut Tally) {
         tally.writes(name, places, call(list.clone(), 2), (&same, 6, (5, 0)));
     }
     for key in corner_keys() {
-        let (list, answer) = (whole(&key), whole(&key[1..]));
+        let (list, answer) = (whole(&key), whole(&key[..DIGITS - 1]));
         let (places, count) = (list.len(), answer.len() as u64);
         tally.writes(
             name,
