@@ -1,11 +1,12 @@
-//! Prints what the Rust does just beyond document 01's domain, for docs/DIFFERENCES.md. Nothing of it goes into the lists.
+//! Prints what the Rust does just beyond the zooms and limits on which it is held, and just beyond ours, for docs/DIFFERENCES.md. Nothing
+//! of it goes into the lists.
 use std::fmt::Debug;
 
 use utiles_core::tile_zbox::{TileZBox, TileZBoxes};
 use utiles_core::zoom::{ZoomRange, ZoomSet, zoom_max_xy, zset2zvec, zset2zvec_rev, zvec2zset, zvec2zset_rev};
 use utiles_core::*;
 
-use crate::paper::RMID_END;
+use crate::paper::{RMID_END, first_of};
 use crate::record::caught;
 
 fn show<T: Debug>(call: &str, run: impl FnOnce() -> T) {
@@ -25,7 +26,7 @@ macro_rules! show {
 }
 
 pub fn print() {
-    println!("the Rust beyond document 01's domain:");
+    println!("the Rust beyond the domain on which it is held:");
     tiles();
     keys();
     relatives();
@@ -38,6 +39,7 @@ fn tiles() {
     show! {
         Tile::try_new(1, 0, 0);
         Tile::try_new(0, 0, 30);
+        Tile::try_new(0, 0, 31);
         Tile::try_new(0, 0, 32);
         Tile::new(0, 0, 0).up();
         Tile::new(0, 0, 0).down();
@@ -59,7 +61,10 @@ fn keys() {
         quadkey_flipy("4");
         quadkey_flipy("0x");
         quadkey_flipy(&"0".repeat(30));
+        quadkey_flipy(&"0".repeat(31));
+        quadkey2xyz(&"0".repeat(30));
         quadkey2xyz(&"4".repeat(30));
+        is_quadkey(&"0".repeat(30));
         quadkey2xyz("4");
     }
 }
@@ -72,6 +77,7 @@ fn relatives() {
         parent(0, 0, 1, Some(2));
         children(0, 0, 29, None).len();
         children(0, 0, 29, None)[0];
+        children(0, 0, 30, None)[0];
         siblings(0, 0, 0);
         neighbors(0, 3, 2);
         neighbors(3, 0, 2);
@@ -88,13 +94,17 @@ fn numbers() {
     show! {
         to_id(1, 0, 0);
         to_id(0, 0, 30);
+        to_id((1 << 30) - 1, (1 << 30) - 1, 30);
         from_id(30);
         from_id(32);
         from_id(1 << 38);
         from_id(u64::MAX);
         xyz2rmid(1, 0, 0);
         xyz2rmid(0, 0, 32);
+        xyz2rmid((1 << 30) - 1, (1 << 30) - 1, 30);
+        rmid2xyz(first_of(30));
         rmid2xyz(RMID_END);
+        int_2_offset_zoom(first_of(30));
         int_2_offset_zoom(RMID_END);
         int_2_offset_zoom(6_148_914_691_236_517_204);
         int_2_offset_zoom(6_148_914_691_236_517_205);
@@ -119,9 +129,10 @@ fn boxes() {
         TileZBox::new(1, 0, 0, 0, 0);
         whole(0).contains_tile(&Tile::new_unchecked(1, 0, 0));
         TileZBox::new(0, 1, 0, 0, 0).contains_tile(&Tile::new_unchecked(1, 0, 0));
-        TileZBoxes::from(vec![whole(0); 33]).length();
+        TileZBoxes::from(vec![whole(0); 9]).length();
         TileZBox::new(0, 1, 0, 1, 0).flipy();
         TileZBox::new(0, 0, 0, 0, 29).zoom_in();
+        TileZBox::new(0, 0, 0, 0, 30).zoom_in();
         TileZBox::new(0, 0, 0, 0, 1).zoom_depth(255);
         TileZBox::from_tiles(&[Tile::new(0, 0, 0); 65_537]);
         TileZBox::from_tiles(&[]);

@@ -1,8 +1,7 @@
 //! Builds: calls whose lists are the caller's own or answers of earlier calls. The Rust is not run for them: each answer
 //! is read off a bitmap of the deepest tiles of a small window of the map.
-use utiles_core::{from_id, to_id};
-
-use crate::paper::{self, DEEPEST};
+use crate::lists::level;
+use crate::paper::{self, DEEPEST, RMID_END, entry};
 use crate::record::{List, counted};
 use crate::sample::{Random, Xyz};
 use crate::window::{CHILDREN, Set, Window, ground, settled};
@@ -34,20 +33,21 @@ pub fn write(list: &mut List) {
             asked(list, &kind(random, &window));
         }
     }
-    let family = vec![1, 65, 33, 97];
-    let small =
-        [vec![], vec![0], vec![0, 0], vec![0, 1], family[1..].to_vec(), vec![1, 33, 65], family, vec![30], vec![0, 64]];
-    for entries in small {
+    let family = level((0, 0, 0), 1);
+    for entries in [vec![], vec![0], vec![0, 0], vec![0, 1], family[1..].to_vec(), vec![1, 2, 3], family] {
+        asked(list, &entries);
+    }
+    for entries in [vec![RMID_END - 1], vec![RMID_END], vec![0, RMID_END]] {
         asked(list, &entries);
     }
 }
 
 // Whether a list is settled.
 fn asked(list: &mut List, entries: &[u64]) {
-    if paper::ids(entries) == 0 {
+    if paper::entries(entries) == 0 {
         list.rule("is_settled", &counted(entries), &[paper::settled(entries).into()]);
     } else {
-        list.refuse("is_settled", &counted(entries), paper::ids(entries), 1);
+        list.refuse("is_settled", &counted(entries), paper::entries(entries), 1);
     }
 }
 
@@ -91,9 +91,12 @@ impl Work {
     }
 
     fn refusal(self, operands: &[Operand], result: usize, places: usize) -> u64 {
+        if no_tile(operands) != 0 {
+            return no_tile(operands);
+        }
         let unsettled = self != Work::Simplify && operands.iter().any(|operand| !paper::settled(&operand.entries));
         let short = places < self.asks(operands, result);
-        paper::lowest(&[no_tile(operands), if unsettled { 11 } else { 0 }, if short { 12 } else { 0 }])
+        paper::lowest(&[if unsettled { 11 } else { 0 }, if short { 12 } else { 0 }])
     }
 }
 
@@ -113,7 +116,7 @@ fn earlier(call: usize, entries: &[u64]) -> Operand {
 }
 
 fn no_tile(operands: &[Operand]) -> u64 {
-    paper::lowest(&operands.iter().map(|operand| paper::ids(&operand.entries)).collect::<Vec<u64>>())
+    paper::lowest(&operands.iter().map(|operand| paper::entries(&operand.entries)).collect::<Vec<u64>>())
 }
 
 fn build(list: &mut List, random: &mut Random, window: &Window) {
@@ -270,17 +273,17 @@ fn broken(random: &mut Random, window: &Window) -> Vec<u64> {
         return vec![window.entry(0, 0, 0); 2];
     }
     let place = random.below(entries.len() as u64) as usize;
-    let tile = from_id(entries[place]);
-    let below = window.top.2 + window.depth - tile.z;
+    let (x, y, z) = paper::tile_of(entries[place]);
+    let below = window.top.2 + window.depth - z;
     match random.below(4) {
         0 if below > 0 => {
             entries.remove(place);
-            entries.extend(CHILDREN.map(|(i, j)| to_id(2 * tile.x + i, 2 * tile.y + j, tile.z + 1)));
+            entries.extend(level((x, y, z), 1));
             entries.sort_by_key(|&entry| paper::place(entry));
         }
         1 if below > 0 => {
             let down = 1 + random.below(below.into()) as u8;
-            entries.push(to_id(random.within(tile.x, down), random.within(tile.y, down), tile.z + down));
+            entries.push(entry((random.within(x, down), random.within(y, down), z + down)));
             entries.sort_by_key(|&entry| paper::place(entry));
         }
         2 => entries.insert(place, entries[place]),
@@ -292,10 +295,9 @@ fn broken(random: &mut Random, window: &Window) -> Vec<u64> {
 // A list, settled or not, with a number in it that is no tile's.
 fn spoilt(random: &mut Random, window: &Window) -> Vec<u64> {
     let mut entries = if random.below(2) == 0 { loose(random, window) } else { settled_list(random, window) };
-    let (_, _, z) = window.top;
-    // Zooms 30 and 31, a row past the last, and a number past all.
-    let far = 32 * random.below(1 << 40) + 31;
-    let bad = random.pick(&[30, 63, u64::MAX, (1 << z << z << 6) + u64::from(z), far]);
+    // The first number past the last tile's, the next one, any of zoom 31, and the last of all.
+    let deeper = RMID_END + random.below(1 << 62);
+    let bad = random.pick(&[RMID_END, RMID_END + 1, deeper, u64::MAX]);
     entries.insert(random.below(entries.len() as u64 + 1) as usize, bad);
     entries
 }
@@ -326,9 +328,9 @@ fn along_a_chain(list: &mut List, top: Xyz, deep: Xyz) {
     for z in top.2 + 1..=deep.2 {
         let (x, y) = (deep.0 >> (deep.2 - z), deep.1 >> (deep.2 - z));
         let family = CHILDREN.map(|(i, j)| (x / 2 * 2 + i, y / 2 * 2 + j));
-        rest.extend(family.iter().filter(|&&t| t != (x, y)).map(|&(x, y)| to_id(x, y, z)));
+        rest.extend(family.iter().filter(|&&t| t != (x, y)).map(|&(x, y)| entry((x, y, z))));
     }
-    let [top, deep] = [top, deep].map(|(x, y, z)| to_id(x, y, z));
+    let [top, deep] = [top, deep].map(entry);
     for entries in [vec![top, deep], rest.clone(), [&[top][..], &rest].concat()] {
         asked(list, &entries);
     }

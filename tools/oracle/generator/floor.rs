@@ -2,15 +2,16 @@
 //! read off a bitmap of the list's ground.
 use std::collections::HashSet;
 
+use utiles_core::Tile;
 use utiles_core::merge as rust;
-use utiles_core::{Tile, from_id, to_id};
 
 use crate::lists::{level, mixed, shuffled, under};
 use crate::merge::in_order;
-use crate::paper::{self, DEEPEST};
+use crate::paper::{self, COMPARED, DEEPEST, deepest_of, entry, tile_of};
 use crate::record::{List, caught, counted};
 use crate::sample::{Random, Xyz};
 use crate::window::{CHILDREN, Set, Window, full, ground, settled};
+use crate::words::{self, Tiles};
 
 // How many zooms a window has above the floor and below it, at most.
 const ABOVE: u8 = 3;
@@ -66,10 +67,12 @@ fn row(list: &mut List, window: &Window, m: u8, places: usize, entries: &[u64]) 
     let set = ground(window, entries);
     let answer = read_off(window, &set, m);
     let length = least(window, &set, m, (0, 0, 0));
+    let tiles = |entries: &[u64]| entries.iter().map(|&entry| paper::place(entry)).collect::<Tiles>();
     let ways = [
         ("the list settled at 0 and cut down", cut_down(&settled(window, &set), m) == answer),
         ("the least exact cover", ground(window, &answer) == set && answer.len() == length),
-        ("the Rust", run(entries, m) == Some(counted(&answer))),
+        ("the call by document 01's words", words::simplify(&tiles(entries), m) == tiles(&answer)),
+        ("the Rust", deepest_of(entries) > COMPARED || run(entries, m) == Some(counted(&answer))),
     ];
     for (way, _) in ways.iter().filter(|(_, same)| !same) {
         list.surprises.push(format!("{way} is otherwise than the bitmap at {m}: {entries:?}"));
@@ -95,7 +98,8 @@ fn places(down: u8) -> impl Iterator<Item = (u8, usize, usize)> {
 
 // A list settled at 0 with each tile above the floor replaced by its descendants at m, all put in order.
 fn cut_down(settled: &[u64], m: u8) -> Vec<u64> {
-    let at_floor = |&entry| if from_id(entry).z < m { descendants(entry, m - from_id(entry).z) } else { vec![entry] };
+    let at_floor =
+        |&entry| if tile_of(entry).2 < m { level(tile_of(entry), m - tile_of(entry).2) } else { vec![entry] };
     let mut entries: Vec<u64> = settled.iter().flat_map(at_floor).collect();
     entries.sort_by_key(|&entry| paper::place(entry));
     entries
@@ -115,13 +119,8 @@ fn least(window: &Window, set: &Set, m: u8, (down, i, j): (u8, usize, usize)) ->
 
 // What the Rust gives, unless it stops.
 fn run(entries: &[u64], m: u8) -> Option<Vec<u64>> {
-    let tiles: HashSet<Tile> = entries.iter().map(|&entry| from_id(entry)).collect();
+    let tiles: HashSet<Tile> = entries.iter().map(|&entry| Tile::from(tile_of(entry))).collect();
     caught(|| in_order(rust::simplify(&tiles, Some(m)))).ok()
-}
-
-fn descendants(entry: u64, down: u8) -> Vec<u64> {
-    let Tile { x, y, z } = from_id(entry);
-    level((x, y, z), down)
 }
 
 // A tile of the window.
@@ -149,8 +148,8 @@ fn cut(random: &mut Random, window: &Window, entries: &[u64]) -> Vec<u64> {
     let mut entries = entries.to_vec();
     let mut tile = random.pick(&entries);
     entries.retain(|&entry| entry != tile);
-    for _ in from_id(tile).z..window.deepest() {
-        entries.extend(descendants(tile, 1));
+    for _ in tile_of(tile).2..window.deepest() {
+        entries.extend(level(tile_of(tile), 1));
         tile = entries.remove(entries.len() - 1 - random.below(4) as usize);
     }
     entries.push(tile);
@@ -177,12 +176,12 @@ fn loose(random: &mut Random, window: &Window, m: u8) -> Vec<u64> {
     for _ in 0..2 + random.below(4) {
         let z = m + random.below(u64::from(window.deepest() - m) + 1) as u8;
         let (x, y, z) = tile(random, window, z);
-        let family = if z > window.top.2 { level((x / 2, y / 2, z - 1), 1) } else { vec![to_id(x, y, z)] };
+        let family = if z > window.top.2 { level((x / 2, y / 2, z - 1), 1) } else { vec![entry((x, y, z))] };
         match random.below(4) {
             0 => entries.extend(family),
             1 => entries.extend(family.iter().take(3)),
-            2 => entries.extend([to_id(x, y, z), under(random, (x, y, z), window.deepest() - z)]),
-            _ => entries.push(to_id(x, y, z)),
+            2 => entries.extend([entry((x, y, z)), under(random, (x, y, z), window.deepest() - z)]),
+            _ => entries.push(entry((x, y, z))),
         }
     }
     entries

@@ -1,23 +1,22 @@
-//! Lists of tiles, as their `to_id` numbers.
-use utiles_core::to_id;
-
+//! Lists of tiles, by their entries.
+use crate::paper::entry;
 use crate::sample::{Random, Xyz};
 
 /// All descendants of a tile, `down` zooms below it.
 pub fn level((x, y, z): Xyz, down: u8) -> Vec<u64> {
     let side = 1 << down;
-    (0..side).flat_map(|i| (0..side).map(move |j| to_id(x * side + i, y * side + j, z + down))).collect()
+    (0..side).flat_map(|i| (0..side).map(move |j| entry((x * side + i, y * side + j, z + down)))).collect()
 }
 
 pub fn ancestors((x, y, z): Xyz) -> Vec<u64> {
-    (1..=z).map(|up| to_id(x >> up, y >> up, z - up)).collect()
+    (1..=z).map(|up| entry((x >> up, y >> up, z - up))).collect()
 }
 
 /// A tile at most `depth` zooms below another.
 pub fn under(random: &mut Random, (x, y, z): Xyz, depth: u8) -> u64 {
     let down = random.below(u64::from(depth) + 1) as u8;
     let (i, j) = (random.coordinate(down), random.coordinate(down));
-    to_id((x << down) + i, (y << down) + j, z + down)
+    entry(((x << down) + i, (y << down) + j, z + down))
 }
 
 /// In another order, and one entry of four once more.

@@ -17,6 +17,7 @@ mod sibling_relationship;
 mod tile;
 mod tile_zbox;
 mod window;
+mod words;
 mod zoom;
 
 use record::List;

@@ -1,15 +1,43 @@
-//! Document 01's refusals, by its words alone: 0 where nothing is refused, else the lowest number that applies. Answers that the
-//! papers give otherwise than the Rust, by their words.
+//! Document 01's refusals with document 02's limits, by their words alone: 0 where nothing is refused, else the lowest number that
+//! applies. The number that stands for a tile in a list.
 use crate::sample::{Xyz, Zbox};
 
-pub const DEEPEST: u8 = 29;
+/// The map's deepest zoom, by document 02.
+pub const DEEPEST: u8 = 30;
+/// The deepest zoom on which the Rust is held.
+pub const COMPARED: u8 = 29;
+/// The deepest zoom of `to_id` and `from_id`.
+pub const DEEPEST_ID: u8 = 29;
 pub const DEEPEST_IN_LIST: u8 = 30;
-pub const MOST_BOXES: usize = 32;
-/// (4^30 - 1) / 3
-pub const RMID_END: u64 = 384_307_168_202_282_325;
+pub const MOST_BOXES: usize = 8;
+/// Behind the last tile's number.
+pub const RMID_END: u64 = first_of(DEEPEST + 1);
 
-fn side(z: u8) -> u64 {
+/// The columns of a zoom, or its rows.
+pub fn side(z: u8) -> u64 {
     1 << z
+}
+
+/// The number of a zoom's first tile: (4^z - 1) / 3.
+pub const fn first_of(z: u8) -> u64 {
+    ((1 << (2 * z)) - 1) / 3
+}
+
+/// The number that stands for a tile in a list.
+pub fn entry((x, y, z): Xyz) -> u64 {
+    first_of(z) + u64::from(x) + u64::from(y) * side(z)
+}
+
+/// The tile that an entry stands for, found by the zooms' ranges.
+pub fn tile_of(entry: u64) -> Xyz {
+    let z = (0..=DEEPEST).find(|&z| entry < first_of(z + 1)).expect("an entry");
+    let place = entry - first_of(z);
+    ((place % side(z)) as u32, (place / side(z)) as u32, z)
+}
+
+/// The deepest zoom of a list's tiles, where each number is an entry.
+pub fn deepest_of(entries: &[u64]) -> u8 {
+    entries.iter().map(|&n| tile_of(n).2).max().unwrap_or(0)
 }
 
 /// The lowest number that applies.
@@ -57,20 +85,6 @@ pub fn siblings(t: Xyz) -> u64 {
     lowest(&[tile(t), if t.2 == 0 { 3 } else { 0 }])
 }
 
-/// The list on the right and bottom edges from zoom 2 on: that of the kind the Rust takes the tile for, without what is off
-/// the map.
-pub fn edge_neighbors((x, y, z): Xyz) -> Vec<Xyz> {
-    let steps: &[(i64, i64)] = if x == 0 {
-        &[(1, 0), (0, 1), (1, 1), (0, -1), (1, -1)]
-    } else if y == 0 {
-        &[(1, 0), (0, 1), (1, 1), (-1, 0), (-1, 1)]
-    } else {
-        &[(1, 0), (0, 1), (1, 1), (-1, 0), (0, -1), (-1, -1), (1, -1), (-1, 1)]
-    };
-    let on_map = steps.iter().filter(|&&(across, along)| step((x, y, z), across, along) == 0);
-    on_map.map(|&(across, along)| ((i64::from(x) + across) as u32, (i64::from(y) + along) as u32, z)).collect()
-}
-
 pub fn key(bytes: &[u8]) -> u64 {
     if bytes.len() > DEEPEST.into() {
         4
@@ -81,9 +95,14 @@ pub fn key(bytes: &[u8]) -> u64 {
     }
 }
 
+/// What `to_id` asks, which has a deepest zoom of its own.
+pub fn id_tile(t: Xyz) -> u64 {
+    if t.2 > DEEPEST_ID { 1 } else { tile(t) }
+}
+
 pub fn id(number: u64) -> u64 {
     let z = (number % 32) as u8;
-    if z > DEEPEST {
+    if z > DEEPEST_ID {
         return 7;
     }
     let place = number / 32;
@@ -123,61 +142,39 @@ pub fn given(before: u64, tiles: u64) -> u64 {
     if before > tiles { 10 } else { 0 }
 }
 
-/// The tile behind the first ones of several boxes, one box after the other, each x first, then y; and how many are given then.
-pub fn boxes_next(areas: &[Zbox], before: u64) -> Vec<u64> {
-    let mut place = before;
-    for &(z, minx, maxx, miny, maxy) in areas {
-        let length = box_length((z, minx, maxx, miny, maxy));
-        if place < length {
-            let columns = u64::from(maxx) - u64::from(minx) + 1;
-            return vec![1, u64::from(minx) + place % columns, u64::from(miny) + place / columns, z.into(), before + 1];
-        }
-        place -= length;
-    }
-    vec![0, 0, 0, 0, before]
-}
-
-/// Document 02: every lowest and highest zoom, 0 to 30, with all between them in the set and the ones just outside not.
-pub fn runs(set: u32) -> Vec<(u8, u8)> {
-    let has = |zoom: u8| zoom <= DEEPEST_IN_LIST && set >> zoom & 1 == 1;
-    let below = |low: u8| low > 0 && has(low - 1);
-    let highs = |low| (low..=DEEPEST_IN_LIST).map(move |high| (low, high));
-    let maximal = |&(low, high): &(u8, u8)| (low..=high).all(has) && !below(low) && !has(high + 1);
-    (0..=DEEPEST_IN_LIST).flat_map(highs).filter(maximal).collect()
-}
-
-pub fn ids(numbers: &[u64]) -> u64 {
-    if numbers.iter().any(|&n| id(n) != 0) { 7 } else { 0 }
+pub fn entries(numbers: &[u64]) -> u64 {
+    if numbers.iter().any(|&n| rmid(n) != 0) { 7 } else { 0 }
 }
 
 /// What `merge` and both settlings ask: no number that is no tile's, and a place for each entry as sent.
 pub fn tile_list(numbers: &[u64], places: usize) -> u64 {
-    lowest(&[ids(numbers), if places < numbers.len() { 12 } else { 0 }])
+    lowest(&[entries(numbers), if places < numbers.len() { 12 } else { 0 }])
 }
 
-/// The z, x and y of a tile's number, so that tiles are in order as these are.
-pub fn place(number: u64) -> (u64, u64, u64) {
-    let (z, place) = (number % 32, number / 32);
-    (z, place % (2 << z), place / (2 << z))
+/// The z, x and y of a tile, so that tiles are in list order as these are.
+pub type Zxy = (u8, u32, u32);
+
+pub fn place(entry: u64) -> Zxy {
+    let (x, y, z) = tile_of(entry);
+    (z, x, y)
 }
 
 /// Strictly in order, no tile beside its own ancestor, no four siblings together.
-pub fn settled(numbers: &[u64]) -> bool {
-    let tiles: Vec<(u64, u64, u64)> = numbers.iter().map(|&n| place(n)).collect();
-    let above = |(z, x, y): (u64, u64, u64), up: u64| (z - up, x >> up, y >> up);
-    let has_ancestor = |t: (u64, u64, u64)| (1..=t.0).any(|up| tiles.contains(&above(t, up)));
-    let siblings =
-        |t: (u64, u64, u64)| tiles.iter().filter(|&&s| s.0 > 0 && t.0 > 0 && above(s, 1) == above(t, 1)).count();
+pub fn settled(entries: &[u64]) -> bool {
+    let tiles: Vec<Zxy> = entries.iter().map(|&n| place(n)).collect();
+    let above = |(z, x, y): Zxy, up: u8| (z - up, x >> up, y >> up);
+    let has_ancestor = |t: Zxy| (1..=t.0).any(|up| tiles.contains(&above(t, up)));
+    let siblings = |t: Zxy| tiles.iter().filter(|&&s| s.0 > 0 && t.0 > 0 && above(s, 1) == above(t, 1)).count();
     tiles.windows(2).all(|pair| pair[0] < pair[1]) && tiles.iter().all(|&t| !has_ancestor(t) && siblings(t) < 4)
 }
 
 /// What `from_tiles` asks: no number that is no tile's, not empty, one zoom.
 pub fn box_list(numbers: &[u64]) -> u64 {
-    if ids(numbers) != 0 {
+    if entries(numbers) != 0 {
         7
     } else if numbers.is_empty() {
         8
-    } else if numbers.iter().any(|n| n % 32 != numbers[0] % 32) {
+    } else if numbers.iter().any(|&n| place(n).0 != place(numbers[0]).0) {
         9
     } else {
         0

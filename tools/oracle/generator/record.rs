@@ -3,8 +3,9 @@
 use std::collections::{BTreeMap, HashSet};
 use std::panic::{AssertUnwindSafe, catch_unwind, set_hook, take_hook};
 
-use utiles_core::{Tile, to_id};
+use utiles_core::Tile;
 
+use crate::paper::{self, COMPARED};
 use crate::sample::Xyz;
 
 #[derive(Default)]
@@ -23,35 +24,77 @@ pub struct List {
 }
 
 impl List {
-    /// A call that the Rust is run for if document 01 gives it no refusal, and that is written as refused otherwise.
-    pub fn call(&mut self, name: &str, args: &[u64], refusal: u64, zeros: usize, answer: impl FnOnce() -> Vec<u64>) {
+    /// A call on no tile. The Rust is run for it if document 01 gives it no refusal, and otherwise it is written as refused.
+    pub fn call(&mut self, name: &str, args: &[u64], refusal: u64, zeros: usize, rust: impl FnOnce() -> Vec<u64>) {
         if refusal == 0 {
-            self.compare(name, args, 0, zeros, || Ok(answer()));
+            self.run_rust(name, args, (0, zeros), || Ok(rust()));
         } else {
             self.refuse(name, args, refusal, zeros);
         }
     }
 
-    /// A call that the Rust is run for whether it is refused or not. It must refuse as document 01 does.
+    /// A call on tiles, with its refusal or 0 and how many zeros a refusal answers. `zoom` is the deepest that it names or reaches: where
+    /// the Rust is held on it, it is run as above and must answer as the papers' words do. Otherwise these stand alone.
+    pub fn both(
+        &mut self,
+        name: &str,
+        args: &[u64],
+        (refusal, zeros): (u64, usize),
+        zoom: u8,
+        rust: impl FnOnce() -> Vec<u64>,
+        words: impl FnOnce() -> Vec<u64>,
+    ) {
+        if refusal == 0 {
+            self.compare(name, args, (0, zeros), zoom, || Ok(rust()), words);
+        } else {
+            self.refuse(name, args, refusal, zeros);
+        }
+    }
+
+    /// The same, save that where the Rust is held it is run whether the call is refused or not. It must refuse as document 01 does.
     pub fn compare(
         &mut self,
         name: &str,
         args: &[u64],
-        refusal: u64,
-        zeros: usize,
-        answer: impl FnOnce() -> Result<Vec<u64>, u64>,
+        (refusal, zeros): (u64, usize),
+        zoom: u8,
+        rust: impl FnOnce() -> Result<Vec<u64>, u64>,
+        words: impl FnOnce() -> Vec<u64>,
     ) {
-        let Some(call) = self.first(name, args) else { return };
-        let Ok(answer) = caught(answer) else {
+        if zoom <= COMPARED {
+            let answer = self.run_rust(name, args, (refusal, zeros), rust);
+            if refusal == 0 && answer.is_some_and(|answer| answer != words()) {
+                self.surprises
+                    .push(format!("the Rust answers otherwise than the papers' words: {name}{}", spaced(args)));
+            }
+        } else if refusal == 0 {
+            self.claim(name, args, &words());
+        } else {
+            self.refuse(name, args, refusal, zeros);
+        }
+    }
+
+    // Runs the Rust, which must refuse as document 01 does. Gives what it answers, unless the list has the call or the Rust stops.
+    fn run_rust(
+        &mut self,
+        name: &str,
+        args: &[u64],
+        (refusal, zeros): (u64, usize),
+        rust: impl FnOnce() -> Result<Vec<u64>, u64>,
+    ) -> Option<Vec<u64>> {
+        let call = self.first(name, args)?;
+        let Ok(answer) = caught(rust) else {
             self.surprises.push(format!("the Rust stops: {call}"));
-            return;
+            return None;
         };
         let number = answer.as_ref().err().copied().unwrap_or(0);
         if number != refusal {
             self.surprises.push(format!("the Rust says {number}, document 01 {refusal}: {call}"));
         }
-        self.run += &line(&call, number, &answer.unwrap_or(vec![0; zeros]));
+        let values = answer.unwrap_or(vec![0; zeros]);
+        self.run += &line(&call, number, &values);
         self.counts.entry(name.to_string()).or_default()[0] += 1;
+        Some(values)
     }
 
     /// A call that document 01 answers otherwise than the Rust, or that the Rust cannot be given.
@@ -158,7 +201,11 @@ pub fn bytes(entries: &[u8]) -> Vec<u64> {
     counted(&entries.iter().map(|&b| b.into()).collect::<Vec<u64>>())
 }
 
-/// A list of tiles holds their `to_id` numbers.
-pub fn ids(tiles: &[Tile]) -> Vec<u64> {
-    counted(&tiles.iter().map(|t| to_id(t.x, t.y, t.z)).collect::<Vec<u64>>())
+/// A list of tiles holds their entries.
+pub fn listed(tiles: &[Xyz]) -> Vec<u64> {
+    counted(&tiles.iter().map(|&t| paper::entry(t)).collect::<Vec<u64>>())
+}
+
+pub fn of_tiles(tiles: &[Tile]) -> Vec<u64> {
+    listed(&tiles.iter().map(|t| (t.x, t.y, t.z)).collect::<Vec<Xyz>>())
 }

@@ -61,26 +61,36 @@ pub fn small() -> Vec<Xyz> {
     tiles
 }
 
-/// The corners and four more tiles of every zoom from 5 on.
+/// The corners of a zoom.
+pub fn corners(z: u8) -> [Xyz; 4] {
+    let last = (1 << z) - 1;
+    [(0, 0, z), (last, 0, z), (0, last, z), (last, last, z)]
+}
+
+/// The corners and four more tiles of every zoom from 5 on; of the deepest one also the middle of each edge.
 pub fn deep() -> Vec<Xyz> {
     let mut random = Random::new();
     let mut tiles = Vec::new();
     for z in 5..=DEEPEST {
-        let last = (1 << z) - 1;
-        tiles.extend([(0, 0, z), (last, 0, z), (0, last, z), (last, last, z)]);
+        tiles.extend(corners(z));
         tiles.extend((0..4).map(|_| random.tile(z)));
     }
+    let (half, last) = (1 << (DEEPEST - 1), (1 << DEEPEST) - 1);
+    tiles.extend([(0, half), (half, 0), (last, half), (half, last)].map(|(x, y)| (x, y, DEEPEST)));
     tiles
 }
 
-/// What names no tile: one past each limit, and far past it.
+/// What names no tile: one past each limit, past each corner of the deepest zoom, and far past it.
 pub fn beyond() -> Vec<Xyz> {
     let mut tiles = Vec::new();
-    for z in [0, 1, 2, 5, 16, 28, DEEPEST] {
+    for z in [0, 1, 2, 5, 16, 28, 29, DEEPEST] {
         let end = 1 << z;
         tiles.extend([(end, 0, z), (0, end, z), (end, end, z), (end - 1, u32::MAX, z), (u32::MAX, end - 1, z)]);
     }
-    for z in [DEEPEST + 1, 31, 32, 255] {
+    let (last, past) = ((1 << DEEPEST) - 1, (1 << (DEEPEST + 1)) - 1);
+    tiles.extend([(last + 1, last, DEEPEST), (last, last + 1, DEEPEST)]);
+    tiles.extend([(past, 0, DEEPEST + 1), (0, past, DEEPEST + 1), (past, past, DEEPEST + 1)]);
+    for z in [DEEPEST + 1, 32, 255] {
         tiles.extend([(0, 0, z), (1 << 30, 0, z), (0, u32::MAX, z)]);
     }
     tiles
@@ -93,7 +103,7 @@ pub fn every() -> Vec<Xyz> {
 /// Zoom, least and greatest x, least and greatest y.
 pub type Zbox = (u8, u32, u32, u32, u32);
 
-/// Every box of zoom 0 to 2; of every zoom a whole one, single corners and random ones.
+/// Every box of zoom 0 to 2; of every zoom a whole one, two single corners and random ones; all corners of the deepest.
 pub fn boxes() -> Vec<Zbox> {
     let mut random = Random::new();
     let mut boxes = Vec::new();
@@ -113,18 +123,19 @@ pub fn boxes() -> Vec<Zbox> {
             boxes.push((z, a, last.min(a + wide), b, last.min(b + high)));
         }
     }
+    boxes.extend(corners(DEEPEST).map(|(x, y, z)| (z, x, x, y, y)));
     boxes
 }
 
 /// What is no box: upside down, off the map, or too deep, and two of these at once.
 pub fn no_boxes() -> Vec<Zbox> {
     let mut boxes = Vec::new();
-    for z in [0, 1, 5, DEEPEST] {
+    for z in [0, 1, 5, 29, DEEPEST] {
         let end = 1 << z;
         boxes.extend([(z, 0, end, 0, 0), (z, 0, 0, 0, end), (z, 1, 0, 0, 0), (z, 0, 0, 1, 0)]);
         boxes.extend([(z, end, end, 0, 0), (z, 0, u32::MAX, 0, u32::MAX), (z, u32::MAX, 0, u32::MAX, 0)]);
     }
-    for z in [DEEPEST + 1, 31, 32, 255] {
+    for z in [DEEPEST + 1, 32, 255] {
         boxes.extend([(z, 0, 0, 0, 0), (z, 1, 0, 0, 0), (z, 0, u32::MAX, 0, u32::MAX)]);
     }
     boxes

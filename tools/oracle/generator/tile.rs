@@ -4,6 +4,7 @@ use utiles_core::Tile;
 use crate::paper;
 use crate::record::{List, of_tile, xyz};
 use crate::sample::{self, Random, Xyz};
+use crate::words;
 
 // The Rust's names: `up` and `down` move x. What each does to x and y is needed to see where it leaves the map.
 const STEPS: [(&str, i64, i64, fn(&Tile) -> Tile); 8] = [
@@ -23,15 +24,20 @@ fn made((x, y, z): Xyz) -> Tile {
 
 pub fn write(list: &mut List) {
     for t in sample::every() {
-        let args = xyz(t);
-        list.call("try_new", &args, paper::tile(t), 3, || of_tile(Tile::try_new(t.0, t.1, t.2).expect("a tile")));
-        list.call("flip", &args, paper::tile(t), 3, || of_tile(made(t).flip()));
+        let (x, y, z) = t;
+        let (args, told) = (xyz(t), (paper::tile(t), 3));
+        let tried = || of_tile(Tile::try_new(x, y, z).expect("a tile"));
+        list.both("try_new", &args, told, z, tried, || xyz(t));
+        list.both("flip", &args, told, z, || of_tile(made(t).flip()), || xyz((x, words::flipy(y, z), z)));
         for (name, across, along, step) in STEPS {
-            list.call(name, &args, paper::step(t, across, along), 3, || of_tile(step(&made(t))));
+            let told = (paper::step(t, across, along), 3);
+            list.both(name, &args, told, z, || of_tile(step(&made(t))), || xyz(words::moved(t, across, along)));
         }
     }
     for (a, b) in pairs() {
-        list.call("cmp", &[xyz(a), xyz(b)].concat(), 0, 1, || vec![(made(a).cmp(&made(b)) as i64 + 1) as u64]);
+        let compared = || vec![(made(a).cmp(&made(b)) as i64 + 1) as u64];
+        let in_order = || vec![((a.2, a.0, a.1).cmp(&(b.2, b.0, b.1)) as i64 + 1) as u64];
+        list.both("cmp", &[xyz(a), xyz(b)].concat(), (0, 1), a.2.max(b.2), compared, in_order);
     }
 }
 

@@ -1,6 +1,5 @@
 //! Sets of tiles as bitmaps: of a small window of the map, which of its deepest tiles are in the set.
-use utiles_core::{from_id, to_id};
-
+use crate::paper;
 use crate::sample::{Random, Xyz};
 
 /// The places of four children, in order.
@@ -36,7 +35,7 @@ impl Window {
     /// The entry of the tile at a place among those `down` zooms below the top.
     pub fn entry(&self, down: u8, i: usize, j: usize) -> u64 {
         let (x, y, z) = self.top;
-        to_id((x << down) + i as u32, (y << down) + j as u32, z + down)
+        paper::entry(((x << down) + i as u32, (y << down) + j as u32, z + down))
     }
 }
 
@@ -73,9 +72,9 @@ pub fn settled(window: &Window, set: &Set) -> Vec<u64> {
 pub fn ground(window: &Window, entries: &[u64]) -> Set {
     let mut set = window.all(false);
     for &entry in entries {
-        let tile = from_id(entry);
-        let down = tile.z - window.top.2;
-        let (i, j) = (tile.x - (window.top.0 << down), tile.y - (window.top.1 << down));
+        let (x, y, z) = paper::tile_of(entry);
+        let down = z - window.top.2;
+        let (i, j) = (x - (window.top.0 << down), y - (window.top.1 << down));
         for place in inside(window, down, i as usize, j as usize) {
             set[place] = true;
         }

@@ -4,10 +4,12 @@ use utiles_core::zoom::{self as rust, ZoomSet};
 use crate::paper::{self, DEEPEST_IN_LIST};
 use crate::record::{List, bytes, counted};
 use crate::sample::Random;
+use crate::words;
 
 pub fn write(list: &mut List) {
     for z in (0..=33).chain([255]) {
-        list.call("zoom_max_xy", &[z.into()], paper::zoom(z), 1, || vec![rust::zoom_max_xy(z).into()]);
+        let run = || vec![rust::zoom_max_xy(z).into()];
+        list.both("zoom_max_xy", &[z.into()], (paper::zoom(z), 1), z, run, || vec![words::last(z)]);
     }
     for set in sets() {
         let args = [set.into()];
@@ -27,7 +29,7 @@ pub fn write(list: &mut List) {
 
 // The Rust leaves out the zooms 0 and 30: it is run for the sets that hold neither, where document 02 must say the same.
 fn runs(list: &mut List, set: u32) {
-    let plain = pairs(paper::runs(set));
+    let plain = pairs(words::runs(set));
     if set & (1 << 30 | 1) != 0 {
         return list.claim("zoom_ranges", &[set.into()], &plain);
     }
