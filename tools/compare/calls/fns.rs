@@ -5,7 +5,7 @@ use crate::entries::of_tiles;
 use crate::ffi::*;
 use crate::inputs;
 use crate::memory::{junk, lend, placed, value, written};
-use crate::paper::{self, DEEPEST, RMID_END};
+use crate::paper::{self, COMPARED};
 use crate::sample::{Random, Xyz};
 use crate::tally::Tally;
 
@@ -58,7 +58,7 @@ fn parent(tally: &mut Tally, random: &mut Random, t: Xyz) {
 // As a target None is z + 1.
 fn descendants(tally: &mut Tally, random: &mut Random, t: Xyz) {
     let (x, y, z) = t;
-    if z < DEEPEST {
+    if z < COMPARED {
         listed(tally, random, "children1_zorder", t, 4, nori_children1_zorder, || {
             rust::children1_zorder(x, y, z).to_vec()
         });
@@ -69,10 +69,10 @@ fn descendants(tally: &mut Tally, random: &mut Random, t: Xyz) {
         2 | 3 => Some(z + random.below(DOWN + 1) as u8),
         _ => Some(z + random.below(2) as u8),
     };
-    if paper::children(t, target) != 0 {
+    let zoom = target.unwrap_or(z + 1);
+    if zoom > COMPARED {
         return;
     }
-    let zoom = target.unwrap_or(z + 1);
     let junk = junk(random, 4_usize.pow(zoom.saturating_sub(z).into()), |n| n);
     let ours = lend(&junk, |out, places, count| unsafe { nori_children(x, y, z, zoom, out, places, count) });
     tally.call("children", (t, target), ours, || written(&junk, &of_tiles(&rust::children(x, y, z, target))));
@@ -151,12 +151,11 @@ fn numbers(tally: &mut Tally, random: &mut Random, t: Xyz) {
 // A number of any zoom: its first, its last, or any.
 fn row_number(random: &mut Random) -> u64 {
     let z = inputs::zoom(random);
-    let first = ((1 << (2 * z)) - 1) / 3;
-    let number = match random.below(6) {
+    let first = paper::first_of(z);
+    match random.below(6) {
         0 => first,
         1 => 4 * first,
         2 => first + (1 << z),
         _ => first + random.below(1 << (2 * z)),
-    };
-    number.min(RMID_END - 1)
+    }
 }

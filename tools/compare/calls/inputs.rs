@@ -1,9 +1,10 @@
-//! The tiles, boxes and numbers that the calls are made with: every zoom alike, and the edges of the map often.
-use crate::paper::DEEPEST;
+//! The tiles, boxes and numbers that the calls are made with: every zoom on which the Rust is held alike, and
+//! the edges of the map often.
+use crate::paper::COMPARED;
 use crate::sample::{Random, Xyz, Zbox};
 
 pub fn zoom(random: &mut Random) -> u8 {
-    random.below(u64::from(DEEPEST) + 1) as u8
+    random.below(u64::from(COMPARED) + 1) as u8
 }
 
 /// A column or a row of a zoom.

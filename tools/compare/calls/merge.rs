@@ -1,15 +1,15 @@
 //! Lists of tiles: one pass of merging, and both settlings.
 use std::collections::HashSet;
 
+use utiles_core::Tile;
 use utiles_core::merge as rust;
-use utiles_core::{Tile, from_id, to_id};
 
 use crate::entries;
 use crate::ffi::*;
 use crate::inputs;
 use crate::lists::{ancestors, level, shuffled, under};
 use crate::memory::{Lent, junk, lend};
-use crate::paper::DEEPEST;
+use crate::paper::{COMPARED, entry, tile_of};
 use crate::sample::Random;
 use crate::tally::Tally;
 
@@ -19,8 +19,9 @@ pub fn compare(tally: &mut Tally, random: &mut Random) {
     let list = list(random);
     let list = if random.below(4) == 0 { list } else { shuffled(random, &list) };
     let m = floor(random, &list);
-    let set: HashSet<Tile> = list.iter().map(|&n| from_id(n)).collect();
-    let sent = entries::of_ids(&list);
+    let tiles: Vec<Tile> = list.iter().map(|&n| Tile::from(tile_of(n))).collect();
+    let sent = entries::of_tiles(&tiles);
+    let set: HashSet<Tile> = tiles.into_iter().collect();
     let lent = junk(random, list.len(), |n| n);
     let least = m.unwrap_or(0);
     let mut changed = 9;
@@ -55,12 +56,12 @@ fn settled(lent: &[u64], list: &[u64], set: HashSet<Tile>) -> Lent<u64> {
 fn list(random: &mut Random) -> Vec<u64> {
     let depth = 1 + random.below(4) as u8;
     let top = {
-        let z = random.below(u64::from(DEEPEST - depth) + 1) as u8;
+        let z = random.below(u64::from(COMPARED - depth) + 1) as u8;
         inputs::tile_of(random, z)
     };
     let (x, y, z) = top;
     match random.below(8) {
-        0 => [ancestors(top), vec![to_id(x, y, z)]].concat()[random.below(u64::from(z) + 1) as usize..].to_vec(),
+        0 => [ancestors(top), vec![entry(top)]].concat()[random.below(u64::from(z) + 1) as usize..].to_vec(),
         1 => level(top, 1),
         2 => [level(top, 1)[random.below(2) as usize..].to_vec(), level((2 * x, 2 * y, z + 1), depth - 1)].concat(),
         3 => {
@@ -69,7 +70,7 @@ fn list(random: &mut Random) -> Vec<u64> {
             all.extend((0..random.below(3)).map(|_| under(random, top, depth)));
             all
         }
-        4 => (0..random.below(12)).map(|_| inputs::tile(random)).map(|(x, y, z)| to_id(x, y, z)).collect(),
+        4 => (0..random.below(12)).map(|_| entry(inputs::tile(random))).collect(),
         _ => {
             let count = random.pick(&[2, 5, 9, 20, 60]);
             (0..count).map(|_| under(random, top, depth)).collect()
@@ -79,7 +80,7 @@ fn list(random: &mut Random) -> Vec<u64> {
 
 // A zoom that the list has or one beside it, any up to 31, 255, 0 or None.
 fn floor(random: &mut Random, list: &[u64]) -> Option<u8> {
-    let zoom = if list.is_empty() { 0 } else { (random.pick(list) % 32) as u8 };
+    let zoom = if list.is_empty() { 0 } else { tile_of(random.pick(list)).2 };
     match random.below(8) {
         0 => None,
         1 | 2 => Some(0),

@@ -4,7 +4,7 @@ use utiles_core::{self as rust, QuadkeyError};
 use crate::ffi::*;
 use crate::inputs;
 use crate::memory::{Placed, junk, lend, placed, refused, value, written};
-use crate::paper::DEEPEST;
+use crate::paper::{COMPARED, DEEPEST};
 use crate::sample::Random;
 use crate::tally::Tally;
 
@@ -26,16 +26,22 @@ fn of_tile(tally: &mut Tally, random: &mut Random) {
     tally.call("xyz2quadkey_vec", t, ours, || written(&junk, &rust::xyz2quadkey_vec(x, y, z)));
 }
 
-// Too long is 4, a bad character 5. Turned over, a bad character makes the Rust's text empty, and what is too long is
-// not compared.
+// Too long is 4, a bad character 5. Turned over, a bad character makes the Rust's text empty, and what is longer than it
+// has zooms is not compared.
 fn of_key(tally: &mut Tally, random: &mut Random) {
-    let text = key(random);
+    // As many bytes as zoom 30 has digits are the Rust's to refuse, and not ours.
+    let text = loop {
+        let text = key(random);
+        if text.len() != usize::from(DEEPEST) {
+            break text;
+        }
+    };
     let (key, n) = (text.as_ptr(), text.len());
     let ours = placed(|x, y, z| unsafe { nori_quadkey2xyz(key, n, x, y, z) });
     tally.call("quadkey2xyz", &text, ours, || tile_of(&text));
     let ours = value(9, |told| unsafe { nori_is_quadkey(key, n, told) });
     tally.call("is_quadkey", &text, ours, || (0, rust::is_quadkey(&text).into()));
-    if n > DEEPEST.into() {
+    if n > COMPARED.into() {
         return;
     }
     let junk = junk(random, n, |n| n as u8);

@@ -1,12 +1,12 @@
 //! Boxes of tiles of one zoom.
+use utiles_core::Tile;
 use utiles_core::tile_zbox::{TileZBox, TileZBoxes};
-use utiles_core::{Tile, from_id, to_id};
 
 use crate::entries;
 use crate::ffi::*;
 use crate::inputs;
 use crate::memory::{junk, lend, value};
-use crate::paper::{self, DEEPEST, MOST_BOXES};
+use crate::paper::{self, COMPARED, MOST_BOXES};
 use crate::sample::{Random, Xyz, Zbox};
 use crate::tally::Tally;
 
@@ -43,16 +43,12 @@ fn of_tiles(tally: &mut Tally, random: &mut Random) {
     let (x, y, z) = t;
     let ours = boxed(|bz, left, right, top, bottom| nori_zbox_from_tile(x, y, z, bz, left, right, top, bottom));
     tally.call("from_tile", t, ours, || found(TileZBox::from_tile(&Tile::new_unchecked(x, y, z))));
-    let list: Vec<u64> =
-        (0..=random.below(12)).map(|_| inputs::tile_of(random, z)).map(|(x, y, z)| to_id(x, y, z)).collect();
-    let sent = entries::of_ids(&list);
+    let tiles: Vec<Tile> = (0..=random.below(12)).map(|_| Tile::from(inputs::tile_of(random, z))).collect();
+    let sent = entries::of_tiles(&tiles);
     let ours = boxed(|bz, left, right, top, bottom| unsafe {
         nori_zbox_from_tiles(sent.as_ptr(), sent.len(), bz, left, right, top, bottom)
     });
-    tally.call("from_tiles", &list, ours, || {
-        let tiles: Vec<Tile> = list.iter().map(|&n| from_id(n)).collect();
-        found(TileZBox::from_tiles(&tiles).expect("a box"))
-    });
+    tally.call("from_tiles", &tiles, ours, || found(TileZBox::from_tiles(&tiles).expect("a box")));
 }
 
 fn of_box(tally: &mut Tally, area: Zbox) {
@@ -92,13 +88,13 @@ fn of_box(tally: &mut Tally, area: Zbox) {
 
 fn deeper(tally: &mut Tally, random: &mut Random, area: Zbox) {
     let (z, minx, maxx, miny, maxy) = area;
-    if z < DEEPEST {
+    if z < COMPARED {
         let ours = boxed(|bz, left, right, top, bottom| {
             nori_zbox_zoom_in(z, minx, maxx, miny, maxy, bz, left, right, top, bottom)
         });
         tally.call("zoom_in", area, ours, || found(made(area).zoom_in()));
     }
-    let depth = random.below(u64::from(DEEPEST - z) + 1) as u8;
+    let depth = random.below(u64::from(COMPARED - z) + 1) as u8;
     let ours = boxed(|bz, left, right, top, bottom| {
         nori_zbox_zoom_depth(z, minx, maxx, miny, maxy, depth, bz, left, right, top, bottom)
     });
