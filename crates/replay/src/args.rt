@@ -1,5 +1,4 @@
 // The arguments of a call, taken from its numbers. A caller first tests that they fit their types: what does not is read as 0.
-use crate::entries;
 use crate::parts;
 use tile::OptionU8;
 use tile::Tile;
@@ -95,15 +94,10 @@ pub fn bytes(args: &[u64], out: &mut [u8]) -> ListArg {
     ListArg::Given(n)
 }
 
-// The arguments are one list of tiles, its count first. Their entries go into the front of `out`.
-pub fn tiles(args: &[u64], out: &mut [u64]) -> ListArg {
+// Whether the arguments are one list, its count first.
+pub fn one_list(args: &[u64]) -> bool {
     if args.len() == 0 {
-        return ListArg::Bad;
+        return false;
     }
-    let n = args.len() - 1;
-    if args[0] != n as u64 || n > out.len() {
-        return ListArg::Bad;
-    }
-    entries::fill(parts::numbers(args, 1, n), out);
-    ListArg::Given(n)
+    args[0] == (args.len() - 1) as u64
 }

@@ -1,6 +1,5 @@
 // Whether a call that wrote a list of tiles into lent memory, all `BLANK` before, left there what the list of calls says.
 use crate::answers;
-use crate::entries;
 use crate::entries::BLANK;
 use crate::parts;
 use errors::Count;
@@ -24,11 +23,11 @@ pub fn accepted(values: &[u64], entries: usize, want: &[u64]) -> bool {
     answers::accepted(values, parts::numbers(want, 0, front))
 }
 
-// Whether the memory holds the entries of these tiles, then 0 up to n places, and is blank behind them.
-pub fn holds(out: &[u64], named: &[u64], n: usize) -> bool {
+// Whether the memory holds these entries, then 0 up to n places, and is blank behind them.
+pub fn holds(out: &[u64], entries: &[u64], n: usize) -> bool {
     let mut i = 0;
     while i < out.len() {
-        if out[i] != held_at(named, n, i) {
+        if out[i] != held_at(entries, n, i) {
             return false;
         }
         i += 1;
@@ -36,9 +35,9 @@ pub fn holds(out: &[u64], named: &[u64], n: usize) -> bool {
     true
 }
 
-fn held_at(named: &[u64], n: usize, i: usize) -> u64 {
-    if i < named.len() {
-        return entries::of_id(named[i]);
+fn held_at(entries: &[u64], n: usize, i: usize) -> u64 {
+    if i < entries.len() {
+        return entries[i];
     }
     if i < n { 0 } else { BLANK }
 }

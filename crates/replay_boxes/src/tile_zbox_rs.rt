@@ -38,14 +38,7 @@ fn from_tile(t: Tile, want: &[u64]) -> bool {
 }
 
 fn from_tiles(given: &[u64], want: &[u64]) -> bool {
-    let mut room = [0u64; 64];
-    let ListArg::Given(n) = args::tiles(given, &mut room) else {
-        return false;
-    };
-    same_box(
-        tile_zbox_around::from_tiles(parts::numbers(&room, 0, n)),
-        want,
-    )
+    args::one_list(given) && same_box(tile_zbox_around::from_tiles(parts::after(given, 1)), want)
 }
 
 // The boxes are summed as numbers, and as records.

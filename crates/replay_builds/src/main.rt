@@ -3,10 +3,8 @@
 use errors::Count;
 use replay::answers;
 use replay::args;
-use replay::args::ListArg;
 use replay::calls;
 use replay::calls::Call;
-use replay::entries;
 use replay::entries::BLANK;
 use replay::lists;
 use replay::parts;
@@ -124,11 +122,7 @@ fn play(name: &[u8], given: &[u64], want: &[u64], build: Build, kept: &mut [u64;
 }
 
 fn is_settled(given: &[u64], want: &[u64]) -> bool {
-    let mut room = [0u64; ROOM];
-    let ListArg::Given(n) = args::tiles(given, &mut room) else {
-        return false;
-    };
-    answers::same_told(area::is_settled(parts::numbers(&room, 0, n)), want)
+    args::one_list(given) && answers::same_told(area::is_settled(parts::after(given, 1)), want)
 }
 
 fn work_of(name: &[u8]) -> WorkArg {
@@ -167,19 +161,16 @@ fn play_call(
     if b.count > ROOM {
         return wrong;
     }
-    if given.len() == 0 || given.len() > ROOM {
+    if given.len() == 0 {
         return wrong;
     }
     let places = given[0];
     if places > ROOM as u64 {
         return wrong;
     }
-    // Whatever in the line is an operand's tile stands in its place here as an entry.
-    let mut own = [0u64; ROOM];
-    entries::fill(given, &mut own);
     let mut room = [BLANK; ROOM];
     let out = parts::front(&mut room, places as usize);
-    let answer = answered(work, a, b, &own, kept, out);
+    let answer = answered(work, a, b, given, kept, out);
     let same = lists::same_list(answer, cleared(work, a.count + b.count), out, want);
     keep(same, answer, out, build, kept)
 }

@@ -2,7 +2,6 @@
 use merge::MergeAnswer;
 use replay::answers;
 use replay::args;
-use replay::args::ListArg;
 use replay::entries::BLANK;
 use replay::lists;
 use replay::names;
@@ -18,14 +17,13 @@ pub fn replayed(name: &[u8], given: &[u64], want: &[u64]) -> bool {
     if !args::fit(parts::numbers(given, 0, 2), 28) || places > ROOM as u64 {
         return false;
     }
-    let mut tiles = [0u64; ROOM];
-    let ListArg::Given(n) = args::tiles(parts::after(given, 2), &mut tiles) else {
+    if !args::one_list(parts::after(given, 2)) {
         return false;
-    };
+    }
     let mut room = [BLANK; ROOM];
     let out = parts::front(&mut room, places as usize);
-    let list = parts::numbers(&tiles, 0, n);
-    of_tiles(name, list, args::option(given, 0), out, want)
+    let tiles = parts::after(given, 3);
+    of_tiles(name, tiles, args::option(given, 0), out, want)
 }
 
 fn of_tiles(name: &[u8], tiles: &[u64], m: OptionU8, out: &mut [u64], want: &[u64]) -> bool {

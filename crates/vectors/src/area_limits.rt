@@ -1,11 +1,11 @@
 // Refusal 6 of union, common part, difference and the test of a settled list: the longest lists that they take, and one entry more.
 use errors::BoolAnswer;
 use errors::Count;
-use errors::U64Answer;
 use replay::entries;
 use replay::entries::BLANK;
 use replay::lists;
 use replay::parts;
+use tile::Tile;
 use vectors_lines::tally;
 use vectors_lines::tally::Tally;
 use vectors_lines::text;
@@ -24,36 +24,29 @@ pub fn lists(before: Tally) -> Tally {
     tally::source(
         b"Document 01, Refusals: 6 over 65,536 entries; a refusal leaves lent memory unchanged",
     );
-    let named = settled_row();
-    let mut row = [0; 65537];
-    entries::fill(&named, &mut row);
-    called(before, &named, &row)
+    called(before, &settled_row())
 }
 
-// Tiles of the top row of zoom 17, from the left on, by their `to_id` numbers: a settled list, since of four siblings it has two at most.
+// The entries of the top row of zoom 17, from the left on: a settled list, since of four siblings it has two at most.
 fn settled_row() -> [u64; 65537] {
-    let mut named = [0; 65537];
+    let mut row = [0; 65537];
     let mut x = 0;
     while x < 65537 {
-        named[x] = in_the_top_row(x as u32);
+        row[x] = in_the_top_row(x as u32);
         x += 1;
     }
-    named
+    row
 }
 
 fn in_the_top_row(x: u32) -> u64 {
-    match ids::to_id(x, 0, 17) {
-        U64Answer::Number(id) => id,
-        U64Answer::Refused(_) => BLANK,
-    }
+    entries::of_tile(Tile { x, y: 0, z: 17 })
 }
 
-fn called(before: Tally, named: &[u64], more: &[u64]) -> Tally {
+fn called(before: Tally, more: &[u64]) -> Tally {
     let most = parts::numbers(more, 0, 65536);
-    let same = parts::numbers(named, 0, 65536);
-    let mut t = longest(before, b"union", Work::Union, most, same, 131072);
+    let mut t = longest(before, b"union", Work::Union, most, most, 131072);
     t = too_long(t, b"union", Work::Union, more);
-    t = longest(t, b"common part", Work::CommonPart, most, same, 131072);
+    t = longest(t, b"common part", Work::CommonPart, most, most, 131072);
     t = too_long(t, b"common part", Work::CommonPart, more);
     t = longest(t, b"difference", Work::Difference, most, &[], 0);
     t = too_long(t, b"difference", Work::Difference, more);
@@ -63,7 +56,7 @@ fn called(before: Tally, named: &[u64], more: &[u64]) -> Tally {
     tally::told(t, b"refusal 6", tested(area::is_settled(more)))
 }
 
-// A list with itself, both as long as can be. These tiles are to be left, then 0 up to n places.
+// A list with itself, both as long as can be. These entries are to be left, then 0 up to n places.
 fn longest(t: Tally, name: &[u8], work: Work, most: &[u64], left: &[u64], n: usize) -> Tally {
     asked(name, b" of 65536 and 65536 entries");
     let says = text::number(text::none(), left.len() as u64);
@@ -84,7 +77,7 @@ fn asked(name: &[u8], of: &[u8]) {
     io::write_all(1, of);
 }
 
-// What the call says, and whether the lent memory, blank before it, holds these tiles' entries, then 0 up to n places.
+// What the call says, and whether the lent memory, blank before it, holds these entries, then 0 up to n places.
 fn worked(work: Work, a: &[u64], b: &[u64], left: &[u64], n: usize) -> Text {
     let mut out = [BLANK; ROOM];
     let answer = answered(work, a, b, &mut out);

@@ -6,10 +6,10 @@ use Rattle.replay.proofs.lists.holds.Statement.{statement}
 use Rattle.replay.proofs.lists.holds.Tie as tie
 
 abbrev Inv-loop : tie.InvT-loop
-Inv-loop out named n i₀ i = Unit
+Inv-loop out entries n i₀ i = Unit
 
 abbrev μ-loop : tie.MeasureT-loop
-μ-loop out named n i₀ i = length out - i
+μ-loop out entries n i₀ i = length out - i
 
 loop-holds : tie.Need-loop-holds Inv-loop μ-loop
 loop-holds c = search needs

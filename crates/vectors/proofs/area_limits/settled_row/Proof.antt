@@ -5,10 +5,10 @@ use Rattle.vectors.proofs.area_limits.settled_row.Statement.{statement}
 use Rattle.vectors.proofs.area_limits.settled_row.Tie as tie
 
 abbrev Inv-loop : tie.InvT-loop
-Inv-loop named₀ x₀ named x = x ≤ 65537
+Inv-loop row₀ x₀ row x = x ≤ 65537
 
 abbrev μ-loop : tie.MeasureT-loop
-μ-loop named₀ x₀ named x = 65537 - x
+μ-loop row₀ x₀ row x = 65537 - x
 
 loop-holds : tie.Need-loop-holds Inv-loop μ-loop
 loop-holds c = search needs
@@ -19,11 +19,11 @@ cast-in-the-top-row c = search needs
 in-the-top-row-requires : tie.Need-in-the-top-row-requires Inv-loop μ-loop
 in-the-top-row-requires c κs = search needs
 
-mul-named : tie.Need-mul-named Inv-loop μ-loop
-mul-named c = search needs
+mul-row : tie.Need-mul-row Inv-loop μ-loop
+mul-row c = search needs
 
-array-write-named : tie.Need-array-write-named Inv-loop μ-loop
-array-write-named c = search needs
+array-write-row : tie.Need-array-write-row Inv-loop μ-loop
+array-write-row c = search needs
 
 add-x : tie.Need-add-x Inv-loop μ-loop
 add-x c = search needs
@@ -46,8 +46,8 @@ settled-row-spec =
     loop-holds
     cast-in-the-top-row
     in-the-top-row-requires
-    mul-named
-    array-write-named
+    mul-row
+    array-write-row
     add-x
     loop-less
     loop-again
