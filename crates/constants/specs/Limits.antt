@@ -7,7 +7,7 @@ use native.Mathlib.Omega.{arith}
 unfoldable pub maxZoom : ℕ
 maxZoom = 30
 
--- the deepest zoom that has numbers of `to_id`
+-- the deepest zoom of the numbers of `to_id`
 unfoldable pub maxIdZoom : ℕ
 maxIdZoom = 29
 

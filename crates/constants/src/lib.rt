@@ -3,7 +3,7 @@
 // The deepest zoom.
 pub const MAX_ZOOM: u8 = 30;
 
-// The deepest zoom that has numbers of `to_id`: below it they would not fit 64 bits.
+// The deepest zoom of the numbers of `to_id`: those of deeper ones would not fit 64 bits.
 pub const MAX_ID_ZOOM: u8 = 29;
 
 // The most entries of a list, of tiles or of zooms.

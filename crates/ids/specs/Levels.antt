@@ -1,6 +1,7 @@
 -- Row-major numbers zoom by zoom: where the numbers of a zoom start, that they fit, and the zoom and the place of a number.
-use mathlib.Core.Path.{_≡_, refl, sym, ap, _∙_}
-use mathlib.Core.Bool.{Bool, true, false, cond}
+use mathlib.Core.Path.{_≡_, refl, sym, ap, subst, _∙_}
+use mathlib.Core.Logic.{_↔_}
+use mathlib.Core.Bool.{Bool, true, false, cond, _&&_}
 use Prim.Native.Nat.{ℕ, zero, suc, _+_, _-_, _*_, _/_, _%_, _^_, _≤_, _<_}
 use native.Mathlib.Decide.{decLe}
 use native.Mathlib.Nat.{lt-of-lt-of-le, pow-suc, mul-div-cancel, mod-lt, div-add-mod', div-lt-iff-lt-mul}
@@ -8,9 +9,9 @@ use native.Mathlib.Numerals.{add-one}
 use native.Mathlib.Omega.{arith}
 use lib.Arith.{digits-lt, digits-div, digits-mod}
 use lib.Count.{leadingZeros, leading-length}
-use lib.Dec.{leb}
+use lib.Dec.{leb, eqb}
 use lib.Pow.{pow-pos, pow-mono, pow-add}
-use borrow.Author.Tests.{lt-leb, leb-true, leb-false}
+use borrow.Author.Tests.{lt-leb, leb-true, leb-false, eqb-true}
 use Rattle.constants.specs.Limits.{maxZoom, maxZoom-small}
 use Rattle.errors.specs.Answer.{_when_}
 use Rattle.tile.specs.OnMap.{OnMap, tileAt}
@@ -139,6 +140,26 @@ rmid-holds n e = limit-holds n (below (leb rmidLimit n) refl e)
     below : (b : Bool) → leb rmidLimit n ≡ b → 7 when b ≡ 0 → n < rmidLimit
     below true p e = absurd (omega arith)
     below false p e = leb-false _ _ p
+
+-- a number in a zoom of the map is below the limit, and of that zoom; one that is not is refused
+pub in-zoom : (n z : ℕ) → z ≤ maxZoom → InZoom n z → (n < rmidLimit) × (zoomOf n ≡ z)
+in-zoom n z h i =
+    let l : n < rmidLimit = rw (add-one maxZoom) (lt-of-lt-of-le (i .below) (start-mono (suc z) (suc maxZoom) (omega arith))) in
+    (l, one-zoom n (zoomOf n) z (limit-holds n l .0) i)
+
+pub not-in-zoom : (n z : ℕ) → (InZoom n z → ⊥) → (eqb (rmidRefusal n) 0 && eqb (zoomOf n) z) ≡ false
+not-in-zoom n z out = pick (leb rmidLimit n) refl (eqb (zoomOf n) z) refl
+  where
+    pick : (a : Bool) → leb rmidLimit n ≡ a → (b : Bool) → eqb (zoomOf n) z ≡ b → (eqb (7 when a) 0 && b) ≡ false
+    pick true p b q = refl
+    pick false p true q = absurd (out (subst (InZoom n) (eqb-true _ _ q) (limit-holds n (leb-false _ _ p) .0)))
+    pick false p false q = refl
+
+-- as the code tests it: a place within zoom z has no binary digits above 2z
+pub offset-within : (o z : ℕ) → o / 2 ^ (2 * z) < 1 ↔ o < 4 ^ z
+offset-within o z =
+    let e : o / 2 ^ (2 * z) < 1 ↔ o < 1 * 2 ^ (2 * z) = div-lt-iff-lt-mul (pow-pos (2 * z)) in
+    (λ h. omega (arith, e .0 h, four-side z), λ h. e .1 (omega (arith, four-side z)))
 
 -- three times such a number, and one, fits 64 bits
 pub thrice-fits : (n : ℕ) → n < rmidLimit → 3 * n + 1 < 2 ^ 63

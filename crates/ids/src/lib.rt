@@ -7,13 +7,14 @@ use errors::U64Answer;
 use tile::Tile;
 use tile::TileAnswer;
 ghost use mathlib.Core.Path.{_≡_};
-ghost use Prim.Native.Nat.{_<_, _≤_};
+ghost use Prim.Native.Nat.{_*_, _/_, _%_, _^_, _<_, _≤_};
 ghost use lib.Dec.{leb};
+ghost use Rattle.constants.specs.Limits.{maxZoom};
 ghost use Rattle.errors.specs.Cases.{u64Case};
-ghost use Rattle.tile.specs.OnMap.{OnMap, tileCase};
-ghost use Rattle.ids.specs.Entry.{entryOf, entryTileOf};
+ghost use Rattle.tile.specs.OnMap.{OnMap, tileAt, tileCase};
+ghost use Rattle.ids.specs.Entry.{entryOf, entryTileOf, entryOfZoom};
 ghost use Rattle.ids.specs.Id.{HasId, idOf, toIdOf, fromIdOf};
-ghost use Rattle.ids.specs.Rmid.{levelStart, rmid, rmidLimit, toRmidOf, zoomOf, offsetZoomCase, offsetZoomOf, rmidTile, fromRmidOf};
+ghost use Rattle.ids.specs.Rmid.{levelStart, rmid, rmidLimit, toRmidOf, zoomOf, offsetZoomCase, offsetZoomOf, fromRmidOf, rmidOfZoom};
 
 // The number (2^(z + 1) * y + x) * 32 + z of a tile, of a zoom where it fits 64 bits.
 pub fn to_id(x: u32, y: u32, z: u8) -> U64Answer
@@ -39,14 +40,14 @@ fn id(x: u32, y: u32, z: u8) -> u64
 pub fn from_id(id: u64) -> TileAnswer
     ensures { λ r. ⌜ tileCase r ≡ fromIdOf id ⌝ }
 {
-    let z = (id % 32) as u8;
-    if z > MAX_ID_ZOOM {
+    let zoom = (id % 32) as u8;
+    if zoom > MAX_ID_ZOOM {
         return TileAnswer::Refused(Refusal::NoTile);
     }
     let place = id / 32;
-    let end = bits::wide_pow2(z);
-    let y = place >> (z + 1);
-    let x = place - (y << (z + 1));
+    let end = bits::wide_pow2(zoom);
+    let y = place >> (zoom + 1);
+    let x = place - (y << (zoom + 1));
     if x >= end {
         return TileAnswer::Refused(Refusal::NoTile);
     }
@@ -56,7 +57,7 @@ pub fn from_id(id: u64) -> TileAnswer
     TileAnswer::Found(Tile {
         x: x as u32,
         y: y as u32,
-        z,
+        z: zoom,
     })
 }
 
@@ -73,6 +74,26 @@ pub fn entry_tile(entry: u64) -> TileAnswer
     ensures { λ r. ⌜ tileCase r ≡ entryTileOf entry ⌝ }
 {
     rmid2xyz(entry)
+}
+
+// The tile that an entry of zoom z stands for, and none for any other number: many in a list have one zoom, which need not be found
+// for each.
+pub fn entry_of_zoom(entry: u64, z: u8) -> TileAnswer
+    requires { ⌜ z ≤ maxZoom ⌝ }
+    ensures { λ r. ⌜ tileCase r ≡ entryOfZoom entry z ⌝ }
+{
+    rmid_of_zoom(entry, z)
+}
+
+// The tile that a number in a list stands for, quicker where it is of the zoom expected.
+pub fn entry_tile_from(entry: u64, expected: u8) -> TileAnswer
+    requires { ⌜ expected ≤ maxZoom ⌝ }
+    ensures { λ r. ⌜ tileCase r ≡ entryTileOf entry ⌝ }
+{
+    match entry_of_zoom(entry, expected) {
+        TileAnswer::Found(t) => TileAnswer::Found(t),
+        TileAnswer::Refused(_) => entry_tile(entry),
+    }
 }
 
 // A row-major number taken apart: the place within its zoom, and the zoom.
@@ -148,16 +169,31 @@ pub fn rmid2xyz(i: u64) -> TileAnswer
     if past_limit(i) {
         return TileAnswer::Refused(Refusal::NoTile);
     }
-    TileAnswer::Found(rmid_tile(i))
+    let z = zoom_of(i);
+    TileAnswer::Found(tile_at(i - level_start(z), z))
 }
 
-// The place within the zoom is a row above z binary digits, and a column below them.
-fn rmid_tile(i: u64) -> Tile
-    requires { ⌜ i < rmidLimit ⌝ }
-    ensures { λ r. ⌜ r ≡ rmidTile i ⌝ }
+// The tile of a number of `xyz2rmid` that is of zoom z, and of no other number.
+fn rmid_of_zoom(i: u64, z: u8) -> TileAnswer
+    requires { ⌜ z ≤ maxZoom ⌝ }
+    ensures { λ r. ⌜ tileCase r ≡ rmidOfZoom i z ⌝ }
 {
-    let z = zoom_of(i);
-    let offset = i - level_start(z);
+    let start = level_start(z);
+    if i < start {
+        return TileAnswer::Refused(Refusal::NoTile);
+    }
+    let offset = i - start;
+    if offset >> (2 * z) > 0 {
+        return TileAnswer::Refused(Refusal::NoTile);
+    }
+    TileAnswer::Found(tile_at(offset, z))
+}
+
+// The tile at a place within its zoom: a row above z binary digits, and a column below them.
+fn tile_at(offset: u64, z: u8) -> Tile
+    requires { ⌜ (z ≤ maxZoom) × (offset < 2 ^ z * 2 ^ z) ⌝ }
+    ensures { λ r. ⌜ r ≡ tileAt (offset % 2 ^ z) (offset / 2 ^ z) z ⌝ }
+{
     let row = offset >> z;
     let column = offset - (row << z);
     Tile {

@@ -100,6 +100,11 @@ pub record Mapped (f : ℕ → ℕ) (list memory : List ℕ) (i : ℕ) (left : L
   pub within : i ≤ length list
   pub written : left ≡ front i (map f list) memory
 
+-- of a list's first n the keys are written so, and they are entries: all of it are, if those from n on are
+pub record KeyedTo (by : Key) (list memory : List ℕ) (n : ℕ) (left : List ℕ) : Type 0 where
+  pub rest : allOf isEntry list ≡ allOf isEntry (drop n list)
+  pub mapped : Mapped (entryKey by) list memory n left
+
 module _ {f : ℕ → ℕ} {list memory left : List ℕ} {i : ℕ} (m : Mapped f list memory i left) where
   pub mapped-length : length left ≡ length memory
   mapped-length =
@@ -127,3 +132,6 @@ module _ {f : ℕ → ℕ} {list memory left : List ℕ} {i : ℕ} (m : Mapped f
       let e = length-map list f in
       m .written ∙ rw (take-all i (map f list) (omega arith), drop-of-length-le memory {i = i} (omega (arith, m .same)))
       (append-nil (map f list))
+
+pub keyed-length : {by : Key} {list memory left : List ℕ} {n : ℕ} → KeyedTo by list memory n left → length left ≡ length list
+keyed-length k = mapped-length (k .mapped) ∙ sym (k .mapped .same)

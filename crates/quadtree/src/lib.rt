@@ -3,11 +3,12 @@ use constants::MAX_ZOOM;
 use tile::Tile;
 use tile::TileAnswer;
 ghost use mathlib.Core.Path.{_≡_};
-ghost use mathlib.Core.List.{map};
-ghost use Prim.Native.Nat.{_<_};
+ghost use mathlib.Core.List.{List, map};
+ghost use Prim.Native.Nat.{ℕ, _<_, _≤_};
 ghost use lib.ListN.{length};
+ghost use Rattle.constants.specs.Limits.{maxZoom};
 ghost use Rattle.quadtree.specs.Digits.{apart};
-ghost use Rattle.quadtree.specs.Lists.{sortKey, keyRank, rankEntry, TileNumber, TileNumbers, Keyed};
+ghost use Rattle.quadtree.specs.Lists.{sortKey, keyRank, rankEntry, TileNumber, TileNumbers, Keyed, KeyedTo};
 ghost use Rattle.quadtree.specs.Locations.{IsLocation, lowOf};
 ghost use Rattle.quadtree.specs.Numbers.{OfMap, mortonOf, locationOf, rankOf, zoomIn, evenBits, mortonTile, locationTile};
 
@@ -65,6 +66,17 @@ fn zoom_in(n: u64) -> u8
     ((63 - u64::leading_zeros(n)) / 2) as u8
 }
 
+// The same, quicker where it is the one expected.
+fn zoom_from(n: u64, expected: u8) -> u8
+    requires { ⌜ (0 < n) × (expected < 32) ⌝ }
+    ensures { λ r. ⌜ r ≡ zoomIn n ⌝ }
+{
+    if n >> (2 * expected) == 1 {
+        return expected;
+    }
+    zoom_in(n)
+}
+
 // The rank of the tile of a Morton code.
 pub fn rank_of_morton(q: u64) -> u64
     requires { ⌜ TileNumber mortonOf q ⌝ }
@@ -101,21 +113,62 @@ fn rank(k: u64, by: Key) -> u64
     }
 }
 
-fn entry_of_rank(r: u64) -> u64
-    requires { ⌜ TileNumber rankOf r ⌝ }
+fn entry_of_rank(r: u64, z: u8) -> u64
+    requires { ⌜ TileNumber rankOf r × (z ≡ zoomIn r) ⌝ }
     ensures { λ e. ⌜ e ≡ rankEntry r ⌝ }
 {
-    let z = zoom_in(r);
     let column = r >> z;
     ids::entry((column - (1 << z)) as u32, (r - (column << z)) as u32, z)
 }
 
-// The keys of a list's tiles, and whether all of the list are entries; it stops at the first that is none.
+// The keys of a list's tiles, and whether all of the list are entries. Lists of one zoom are common, and quicker to read.
 pub fn keys(list: &[u64], keys: &mut [u64], by: Key) -> bool
     requires { ⌜ length (now list) ≡ length (now keys) ⌝ }
     ensures { λ r. ⌜ Keyed by (now (list .entry)) (now (keys .exit)) r ⌝ }
 {
+    let n = keys_of_zoom(list, keys, by, first_zoom(list));
+    further_keys(list, keys, by, n)
+}
+
+// The zoom of a list's first entry, 0 if there is none.
+fn first_zoom(list: &[u64]) -> u8
+    ensures { λ z. ⌜ z ≤ maxZoom ⌝ }
+{
+    if list.len() == 0 {
+        return 0;
+    }
+    match ids::entry_tile(list[0]) {
+        TileAnswer::Found(t) => t.z,
+        TileAnswer::Refused(_) => 0,
+    }
+}
+
+// The keys of the first entries, as long as they are of zoom z, and how many these are.
+fn keys_of_zoom(list: &[u64], keys: &mut [u64], by: Key, z: u8) -> usize
+    requires { ⌜ (length (now list) ≡ length (now keys)) × (z ≤ maxZoom) ⌝ }
+    ensures { λ n. ⌜ KeyedTo by (now (list .entry)) (now (keys .entry)) n (now (keys .exit)) ⌝ }
+{
     let mut i = 0;
+    while i < list.len() {
+        match ids::entry_of_zoom(list[i], z) {
+            TileAnswer::Found(t) => {
+                keys[i] = key_of(t, by);
+            }
+            TileAnswer::Refused(_) => {
+                return i;
+            }
+        }
+        i += 1;
+    }
+    i
+}
+
+// The keys of the entries from the n-th on, and whether these are entries; it stops at the first that is none.
+fn further_keys(list: &[u64], keys: &mut [u64], by: Key, n: usize) -> bool
+    requires { ⌜ ((memory : List ℕ) × KeyedTo by (now list) memory n (now keys)) ⌝ }
+    ensures { λ r. ⌜ Keyed by (now (list .entry)) (now (keys .exit)) r ⌝ }
+{
+    let mut i = n;
     while i < list.len() {
         match ids::entry_tile(list[i]) {
             TileAnswer::Found(t) => {
@@ -142,14 +195,17 @@ pub fn ranks(keys: &mut [u64], by: Key)
     }
 }
 
-// Ranks become entries.
+// Ranks become entries. They mostly come in order, and so by zooms.
 pub fn entries(ranks: &mut [u64])
     requires { ⌜ TileNumbers rankOf (now ranks) ⌝ }
     ensures { λ _. ⌜ now (ranks .exit) ≡ map rankEntry (now (ranks .entry)) ⌝ }
 {
+    let mut z = 0;
     let mut i = 0;
     while i < ranks.len() {
-        ranks[i] = entry_of_rank(ranks[i]);
+        let r = ranks[i];
+        z = zoom_from(r, z);
+        ranks[i] = entry_of_rank(r, z);
         i += 1;
     }
 }

@@ -12,8 +12,8 @@ use Rattle.ids.specs.Powers.{wide-side}
 use Rattle.ids.proofs.from_id.Statement.{statement}
 use Rattle.ids.proofs.from_id.Tie as tie
 
-cast-z : tie.Need-cast-z
-cast-z c = search needs
+cast-zoom : tie.Need-cast-zoom
+cast-zoom c = search needs
 
 returns : tie.Need-returns
 unfolding idTile maxIdZoom
@@ -90,7 +90,7 @@ pub from-id-spec : {M : Type 1} → statement M
 from-id-spec =
     tie.close
     (tie.spec
-    cast-z
+    cast-zoom
     returns
     wide-pow2-requires
     add-y

@@ -15,89 +15,73 @@ use Rattle.quadtree.specs.RankOrder.{rank-small, rank-taken}
 use Rattle.quadtree.proofs.entry_of_rank.Statement.{statement}
 use Rattle.quadtree.proofs.entry_of_rank.Tie as tie
 
-zoom-in-requires : tie.Need-zoom-in-requires
-zoom-in-requires c κs = by-tile (λ (r : ℕ). 0 < r) (c .pre) (λ t m. rank-small t m .0)
+abbrev tile : tie.Start → Tile
+tile c = c .pre .0 .tile
 
-abbrev tile : tie.After-zoom-in → Tile
-tile c = c .before .pre .tile
+taken : (c : tie.Start)
+    → (c .args .z ≡ tile c .z) × (c .args .r / 2 ^ c .args .z ≡ 2 ^ tile c .z + tile c .x) × (c .args .r % 2 ^ c .args .z ≡ tile c .y)
+taken c = rank-taken (c .pre .0 .tile) (c .pre .0 .on-map) (c .pre .0 .number) (c .pre .1)
 
-taken : (c : tie.After-zoom-in)
-    → (c .zoom-in .result ≡ tile c .z) × (c .before .args .r / 2 ^ c .zoom-in .result ≡ 2 ^ tile c .z + tile c .x) × (c .before .args .r % 2 ^ c .zoom-in .result ≡ tile c .y)
-taken c = rank-taken (c .before .pre .tile) (c .before .pre .on-map) (c .before .pre .number) (c .zoom-in .ensures)
-
-shallow : (c : tie.After-zoom-in) → c .zoom-in .result ≤ 30
-shallow c = omega (arith, taken c .0, c .before .pre .on-map .zoom, maxZoom-small)
-
-cast-column : tie.Need-cast-column
-cast-column c = search needs
+shallow : (c : tie.Start) → c .args .z ≤ 30
+shallow c = omega (arith, taken c .0, c .pre .0 .on-map .zoom, maxZoom-small)
 
 shr-column : tie.Need-shr-column
 shr-column c = omega (arith, shallow c)
 
-cast-entry : tie.Need-cast-entry
-cast-entry c = search needs
-
 shl-entry : tie.Need-shl-entry
 shl-entry c = omega (arith, shallow c)
 
-one : (c : tie.After-zoom-in) → 1 * 2 ^ c .zoom-in .result % 2 ^ 64 ≡ 2 ^ tile c .z
+one : (c : tie.Start) → 1 * 2 ^ c .args .z % 2 ^ 64 ≡ 2 ^ tile c .z
 one c =
-    let e : 1 * 2 ^ c .zoom-in .result ≡ 2 ^ c .zoom-in .result = omega arith in
-    ap (λ (n : ℕ). n % 2 ^ 64) e ∙ (pow-within (c .zoom-in .result) 64 (omega (arith, shallow c)) ∙ ap (λ (z : ℕ). 2 ^ z) (taken c .0))
+    let e : 1 * 2 ^ c .args .z ≡ 2 ^ c .args .z = omega arith in
+    ap (λ (n : ℕ). n % 2 ^ 64) e ∙ (pow-within (c .args .z) 64 (omega (arith, shallow c)) ∙ ap (λ (z : ℕ). 2 ^ z) (taken c .0))
 
-column : (c : tie.After-zoom-in) → c .before .args .r / 2 ^ c .zoom-in .result - 1 * 2 ^ c .zoom-in .result % 2 ^ 64 ≡ tile c .x
+column : (c : tie.Start) → c .args .r / 2 ^ c .args .z - 1 * 2 ^ c .args .z % 2 ^ 64 ≡ tile c .x
 column c = omega (arith, one c, taken c .1)
 
-row : (c : tie.After-zoom-in) → c .before .args .r - c .before .args .r / 2 ^ c .zoom-in .result * 2 ^ c .zoom-in .result % 2 ^ 64 ≡ tile c .y
-row c = low-part (c .before .args .r) (c .zoom-in .result) 64 (c .before .fits .r .fits) ∙ taken c .2
+row : (c : tie.Start) → c .args .r - c .args .r / 2 ^ c .args .z * 2 ^ c .args .z % 2 ^ 64 ≡ tile c .y
+row c = low-part (c .args .r) (c .args .z) 64 (c .fits .r .fits) ∙ taken c .2
 
 sub-entry : tie.Need-sub-entry
 sub-entry c = omega (arith, one c, taken c .1)
 
-cast-entry-2 : tie.Need-cast-entry-2
-cast-entry-2 c = omega (arith, column c, on-map-small (c .before .pre .on-map) .0)
-
-cast-entry-3 : tie.Need-cast-entry-3
-cast-entry-3 c = search needs
+cast-entry : tie.Need-cast-entry
+cast-entry c = omega (arith, column c, on-map-small (c .pre .0 .on-map) .0)
 
 shl-entry-2 : tie.Need-shl-entry-2
 shl-entry-2 c = omega (arith, shallow c)
 
 sub-entry-2 : tie.Need-sub-entry-2
-sub-entry-2 c = high-part-below (c .before .args .r) (c .zoom-in .result) 64 (c .before .fits .r .fits)
+sub-entry-2 c = high-part-below (c .args .r) (c .args .z) 64 (c .fits .r .fits)
 
-cast-entry-4 : tie.Need-cast-entry-4
-cast-entry-4 c = omega (arith, row c, on-map-small (c .before .pre .on-map) .1)
+cast-entry-2 : tie.Need-cast-entry-2
+cast-entry-2 c = omega (arith, row c, on-map-small (c .pre .0 .on-map) .1)
 
 same-tile : {x y z a b k : ℕ} → a ≡ x → b ≡ y → k ≡ z → OnMap x y z → OnMap a b k
 same-tile e f g m = rw (e, f, g) m
 
 entry-requires : tie.Need-entry-requires
-entry-requires c κs = same-tile (column c) (row c) (taken c .0) (c .before .pre .on-map)
+entry-requires c κs = same-tile (column c) (row c) (taken c .0) (c .pre .0 .on-map)
 
 same-entry : {x y z a b k : ℕ} → a ≡ x → b ≡ y → k ≡ z → entryOf a b k ≡ entryOf x y z
 same-entry e f g = rw (e, f, g)
 
 returns : tie.Need-returns
 returns c =
-    let s = c .before .before in
-    let t : rankTile (s .args .r) ≡ s .pre .tile = ap rankTile (sym (s .pre .number)) ∙ rank-tile (s .pre .tile) (s .pre .on-map) in
+    let s = c .before in
+    let t : rankTile (s .args .r) ≡ s .pre .0 .tile = ap rankTile (sym (s .pre .0 .number)) ∙ rank-tile (s .pre .0 .tile) (s .pre .0 .on-map) in
     c .entry .ensures ∙ (same-entry (column (c .before)) (row (c .before)) (taken (c .before) .0) ∙ ap tileEntry (sym t))
 
 pub entry-of-rank-spec : {M : Type 1} → statement M
 entry-of-rank-spec =
     tie.close
     (tie.spec
-    zoom-in-requires
-    cast-column
     shr-column
-    cast-entry
     shl-entry
     sub-entry
-    cast-entry-2
-    cast-entry-3
+    cast-entry
     shl-entry-2
     sub-entry-2
-    cast-entry-4
+    cast-entry-2
     entry-requires
     returns)
