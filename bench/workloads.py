@@ -3,10 +3,10 @@
 
 usage: workloads.py OUTDIR
 
-Writes little-endian u64 lists of to_id numbers, (2^(z+1)*y + x)*32 + z, and a manifest:
+Writes little-endian u64 lists of list entries, the xyz2rmid numbers (4^z - 1)/3 + x + y*2^z, and a manifest:
   settle NAME SIZE K FILE           K lists of SIZE entries, any order, to be settled
   area   NAME SIZE K FILE_A FILE_B  K pairs of settled lists in (z, x, y) order; SIZE entries a pair
-  calls  NAME SIZE 1 FILE           tiles for the single calls
+  calls  NAME SIZE 1 FILE           tiles for the single calls; of zooms 2 to 29, since to_id and the Rust are timed on them
 The K lists of a workload are mirror images of one list (x and y of each zoom xor one number's leading bits), so
 they cost the same, and a processor cannot learn a small list by heart. A file holds them one after the other.
 Integers only, own random numbers: the same bytes on every machine (hashes in workloads.tsv).
@@ -18,6 +18,9 @@ import sys
 # How many mirror images there are of a list of each size.
 IMAGES = {1: 1024, 2: 1024, 4: 1024, 8: 1024, 16: 512, 256: 64, 4096: 8, 65536: 1}
 MASK = (1 << 64) - 1
+# The deepest zoom, and the deepest that to_id has a number for.
+DEEPEST = 30
+TO_ID_DEEPEST = 29
 
 
 class Rng:
@@ -45,8 +48,8 @@ def mix(z):
     return z ^ (z >> 31)
 
 
-def to_id(z, x, y):
-    return (((y << (z + 1)) + x) << 5) + z
+def xyz2rmid(z, x, y):
+    return ((1 << (2 * z)) - 1) // 3 + x + (y << z)
 
 
 def morton(x, y, z):
@@ -58,13 +61,13 @@ def morton(x, y, z):
 
 def settle(tiles):
     """The settled list of (z, x, y) tiles: sorted by quadtree position, ancestors first, then merged."""
-    keyed = sorted((morton(x, y, z) << (2 * (29 - z)), z, x, y) for z, x, y in set(tiles))
+    keyed = sorted((morton(x, y, z) << (2 * (DEEPEST - z)), z, x, y) for z, x, y in set(tiles))
     out = []
     end = 0
     for m, z, x, y in keyed:
         if m < end:
             continue
-        end = m + (1 << (2 * (29 - z)))
+        end = m + (1 << (2 * (DEEPEST - z)))
         out.append((z, x, y))
         while len(out) >= 4:
             z1, x1, y1 = out[-1]
@@ -215,11 +218,11 @@ def halves(n):
 
 
 def calls(n):
-    """Tiles of zoom 2 to 29 that touch no edge of the map, where all neighbour rules agree."""
+    """Tiles of zoom 2 to TO_ID_DEEPEST that touch no edge of the map, where all neighbour rules agree."""
     rng = Rng(6000 + n)
     v = []
     for _ in range(n):
-        z = 2 + rng.below(28)
+        z = 2 + rng.below(TO_ID_DEEPEST - 1)
         v.append((z, 1 + rng.below((1 << z) - 2), 1 + rng.below((1 << z) - 2)))
     return v
 
@@ -229,8 +232,8 @@ def images(tiles, n, seed, ordered):
     out = []
     for k in range(IMAGES[n]):
         rng = Rng(seed + k)
-        mx, my = (rng.below(1 << 29), rng.below(1 << 29)) if k else (0, 0)
-        v = [(z, x ^ mx >> (29 - z), y ^ my >> (29 - z)) for z, x, y in tiles]
+        mx, my = (rng.below(1 << DEEPEST), rng.below(1 << DEEPEST)) if k else (0, 0)
+        v = [(z, x ^ mx >> (DEEPEST - z), y ^ my >> (DEEPEST - z)) for z, x, y in tiles]
         if ordered:
             v.sort()
         elif k:
@@ -239,9 +242,9 @@ def images(tiles, n, seed, ordered):
     return out
 
 
-def list_hash(ids):
+def list_hash(entries):
     h = 0xCBF29CE484222325
-    for v in ids:
+    for v in entries:
         h = (((h << 5 | h >> 59) & MASK) ^ v) * 0x9E3779B97F4A7C15 & MASK
     return h
 
@@ -252,13 +255,13 @@ def main():
     manifest, hashes = [], []
 
     def write(name, tiles):
-        ids = [to_id(*t) for t in tiles]
-        data = array.array("Q", ids)
+        entries = [xyz2rmid(*t) for t in tiles]
+        data = array.array("Q", entries)
         if sys.byteorder == "big":
             data.byteswap()
         with open(os.path.join(out, name), "wb") as f:
             data.tofile(f)
-        hashes.append(f"{name}\t{len(ids)}\t{list_hash(ids):016x}")
+        hashes.append(f"{name}\t{len(entries)}\t{list_hash(entries):016x}")
         return name
 
     for n, k in IMAGES.items():

@@ -1,6 +1,7 @@
-// The benchmark of single calls. A peer is a struct of functions; each call's result goes into a checksum that is the same for all
-// peers, and the loop carries no other dependence from call to call. The peer `limit` below is written by hand, refuses as the
-// paper says, writes into lent memory, and is joined to the loop by the compiler.
+// The benchmark of single calls. A peer is a struct of functions; each call's result goes into a checksum, and the loop carries no
+// other dependence from call to call. The checksum is the same for all peers, but for the calls that write entries: see time_entries.
+// The peer `limit` below is written by hand, refuses as the paper says, writes into lent memory, and is joined to the loop by the
+// compiler.
 #pragma once
 #include "common.hpp"
 
@@ -12,10 +13,9 @@ struct Keys {
   std::vector<u32> at;
 };
 
-inline Keys quadkeys(const List& ids) {
+inline Keys quadkeys(const std::vector<Tile>& tiles) {
   Keys k;
-  for (u64 id : ids) {
-    Tile t = from_id(id);
+  for (Tile t : tiles) {
     k.at.push_back(k.bytes.size());
     for (int i = t.z - 1; i >= 0; i--) k.bytes.push_back('0' + (t.x >> i & 1) + 2 * (t.y >> i & 1));
   }
@@ -35,26 +35,48 @@ inline void time_one(const char* peer, const Job& j, const char* op, size_t call
   emit(peer, j, op, "call", calls, calls, h, t);
 }
 
-// Depths of `children`: tiles of zoom 2 to 25 only, and fewer of them as the families grow.
-inline List children_input(const List& ids, size_t n) {
-  List v;
-  for (u64 id : ids)
-    if (from_id(id).z <= 23 && v.size() < n) v.push_back(id);
+// A call on each tile, call(t, out), that writes entries and answers with their count. An earlier build of the library may have other
+// numbers as entries. So the hash that is compared is of all entries as xyz2rmid numbers, taken once before the timing, and the
+// checksum in the timed loop only uses what was written.
+template <class P, class Call>
+void time_entries(const char* peer, const Job& j, const char* op, P p, const std::vector<Tile>& tiles, Call call) {
+  List out(1 << 14);
+  u64 h = NO_ANSWERS;
+  for (Tile t : tiles) {
+    size_t c = call(t, out.data());
+    h = answer_hash(h, out.data(), c, [&](u64 entry) { return p.number(entry); });
+  }
+  Timing timing = measure([&] {
+    u64 used = 0;
+    for (Tile t : tiles) {
+      size_t c = call(t, out.data());
+      used = fold(used, out[0] ^ out[c - 1] ^ c);
+    }
+    keep(used);
+  });
+  emit(peer, j, op, "call", tiles.size(), tiles.size(), h, timing);
+}
+
+// The first n tiles whose descendants 6 zooms down, the most that `children` is asked for, are no deeper than the workload's tiles.
+inline std::vector<Tile> children_input(const std::vector<Tile>& tiles, size_t n) {
+  std::vector<Tile> v;
+  for (Tile t : tiles)
+    if (t.z <= TO_ID_DEEPEST - 6 && v.size() < n) v.push_back(t);
   return v;
 }
 
 template <class P>
 void time_calls(const char* peer, const Job& j, P p) {
-  const List& ids = j.as;
+  const List& rmids = j.as;
   std::vector<Tile> tiles;
-  List rmids;
-  for (u64 id : ids) {
-    Tile t = from_id(id);
+  List ids;
+  for (u64 r : rmids) {
+    Tile t = rmid2xyz(r);
     tiles.push_back(t);
-    rmids.push_back(((1ull << 2 * t.z) - 1) / 3 + t.x + ((u64)t.y << t.z));
+    ids.push_back(to_id(t.x, t.y, t.z));
   }
-  Keys keys = quadkeys(ids);
-  size_t n = ids.size();
+  Keys keys = quadkeys(tiles);
+  size_t n = tiles.size();
   time_one(peer, j, "to_id", n, [&] {
     u64 h = 0;
     for (Tile t : tiles) h = fold(h, p.to_id(t));
@@ -95,53 +117,28 @@ void time_calls(const char* peer, const Job& j, P p) {
     for (Tile t : tiles) h = fold_tile(h, p.parent(t, t.z / 2));
     return h;
   });
-  List buf(1 << 14);
-  time_one(peer, j, "neighbors", n, [&] {
-    u64 h = 0;
-    for (Tile t : tiles) {
-      size_t c = p.neighbors(t, buf.data());
-      h = fold(h, buf[0] ^ buf[c - 1] ^ c);
-    }
-    return h;
-  });
+  time_entries(peer, j, "neighbors", p, tiles, [&](Tile t, u64* out) { return p.neighbors(t, out); });
   for (int d : {1, 4, 6}) {
     std::string op = "children+" + std::to_string(d);
-    List in = children_input(ids, 65536 >> (2 * d));
-    std::vector<Tile> ts;
-    for (u64 id : in) ts.push_back(from_id(id));
-    time_one(peer, j, op.c_str(), ts.size(), [&] {
-      u64 h = 0;
-      for (Tile t : ts) {
-        size_t c = p.children(t, t.z + d, buf.data());
-        h = fold(h, buf[0] ^ buf[c / 2] ^ buf[c - 1] ^ c);
-      }
-      return h;
-    });
+    time_entries(peer, j, op.c_str(), p, children_input(tiles, 65536 >> (2 * d)),
+                 [&](Tile t, u64* out) { return p.children(t, t.z + d, out); });
   }
 }
 
 struct LimitCalls {
-  u64 to_id(Tile t) { return t.z > 29 || (t.x | t.y) >> t.z ? 0 : ::to_id(t.x, t.y, t.z); }
+  u64 number(u64 entry) { return entry; }
+  u64 to_id(Tile t) { return t.z > TO_ID_DEEPEST || (t.x | t.y) >> t.z ? 0 : ::to_id(t.x, t.y, t.z); }
   Tile from_id(u64 id) {
     u32 z = id & 31;
     u64 xy = id >> 5, x = xy & ((2ull << z) - 1), y = xy >> (z + 1);
-    if (z > 29 || (x | y) >> z) return NO_TILE;
+    if (z > TO_ID_DEEPEST || (x | y) >> z) return NO_TILE;
     return {(u32)x, (u32)y, (u8)z};
   }
-  u64 xyz2rmid(Tile t) {
-    if (t.z > 29 || (t.x | t.y) >> t.z) return 0;
-    return (0x5555555555555555ull & ((1ull << 2 * t.z) - 1)) + t.x + ((u64)t.y << t.z);
-  }
-  Tile rmid2xyz(u64 r) {
-    if (r >= 384307168202282325ull) return NO_TILE;
-    // 3r + 1 lies in [4^z, 4^(z+1))
-    u32 z = (63 - __builtin_clzll(3 * r + 1)) / 2;
-    u64 o = r - (0x5555555555555555ull & ((1ull << 2 * z) - 1));
-    return {(u32)(o & ((1ull << z) - 1)), (u32)(o >> z), (u8)z};
-  }
+  u64 xyz2rmid(Tile t) { return t.z > DEEPEST || (t.x | t.y) >> t.z ? 0 : ::xyz2rmid(t.x, t.y, t.z); }
+  Tile rmid2xyz(u64 r) { return r >= ENTRIES ? NO_TILE : ::rmid2xyz(r); }
   // Eight digits a step; the digits are tested on the way.
   Tile quadkey2xyz(const char* s, size_t n) {
-    if (n > 29) return NO_TILE;
+    if (n > DEEPEST) return NO_TILE;
     u64 m = 0, bad = 0;
     auto eight = [&](u64 v) {
       v ^= 0x3030303030303030ull;
@@ -187,11 +184,10 @@ struct LimitCalls {
     return {t.x >> (n + 1), t.y >> (n + 1), (u8)(t.z - 1 - n)};
   }
   size_t neighbors(Tile t, u64* o) {
-    u32 w = 1u << t.z, x = t.x, y = t.y, z = t.z;
-    if (x > 0 && y > 0 && x + 1 < w && y + 1 < w) {
-      o[0] = ::to_id(x + 1, y, z), o[1] = ::to_id(x, y + 1, z), o[2] = ::to_id(x + 1, y + 1, z);
-      o[3] = ::to_id(x - 1, y, z), o[4] = ::to_id(x, y - 1, z), o[5] = ::to_id(x - 1, y - 1, z);
-      o[6] = ::to_id(x + 1, y - 1, z), o[7] = ::to_id(x - 1, y + 1, z);
+    u64 w = 1ull << t.z, r = ::xyz2rmid(t.x, t.y, t.z);
+    if (t.x > 0 && t.y > 0 && t.x + 1 < w && t.y + 1 < w) {
+      o[0] = r + 1, o[1] = r + w, o[2] = r + w + 1, o[3] = r - 1;
+      o[4] = r - w, o[5] = r - w - 1, o[6] = r - w + 1, o[7] = r + w - 1;
       return 8;
     }
     return 0;  // the input has no edge tiles
@@ -202,8 +198,8 @@ struct LimitCalls {
     size_t n = (size_t)1 << 2 * d;
     for (size_t i = 0; i < n; i += 4) {
       u64 q = i ^ (i >> 1 & 0x5555555555555555ull);  // digits 0, 1, 2, 3 of the walk are quadkey digits 0, 1, 3, 2
-      u64 id = ::to_id((t.x << d) + gather(q), (t.y << d) + gather(q >> 1), to);
-      o[i] = id, o[i + 1] = id + 32, o[i + 2] = id + 32 + (64ull << to), o[i + 3] = id + (64ull << to);
+      u64 r = ::xyz2rmid((t.x << d) + gather(q), (t.y << d) + gather(q >> 1), to);
+      o[i] = r, o[i + 1] = r + 1, o[i + 2] = r + 1 + (1ull << to), o[i + 3] = r + (1ull << to);
     }
     return n;
   }

@@ -20,13 +20,26 @@ struct Tile {
   u8 z;
 };
 
+// The deepest zoom, and how many tiles there are down to it: a list entry is an xyz2rmid number, and all numbers below this are.
+constexpr u32 DEEPEST = 30;
+constexpr u64 ENTRIES = (1ull << 2 * (DEEPEST + 1)) / 3;
+// The deepest zoom of to_id: at the next one its numbers have more than 64 bits.
+constexpr u32 TO_ID_DEEPEST = 29;
+
 inline u64 to_id(u32 x, u32 y, u32 z) { return (((u64)y << (z + 1)) + x) << 5 | z; }
-inline Tile from_id(u64 id) {
-  u32 z = id & 31;
-  u64 xy = id >> 5;
-  return {(u32)(xy & ((2ull << z) - 1)), (u32)(xy >> (z + 1)), (u8)z};
+// How many tiles the zooms above z have.
+inline u64 tiles_above(u32 z) { return 0x1555555555555555ull >> (62 - 2 * z); }
+inline u64 xyz2rmid(u32 x, u32 y, u32 z) { return tiles_above(z) + x + ((u64)y << z); }
+// One instruction, as 63 - clz is not.
+inline u32 top_bit(u64 v) { return __builtin_clzll(v) ^ 63; }
+// The zoom of a number: 3r + 1 lies in [4^z, 4^(z+1)).
+inline u32 rmid_zoom(u64 r) { return top_bit(3 * r + 1) / 2; }
+inline Tile rmid2xyz(u64 r) {
+  u32 z = rmid_zoom(r);
+  u64 o = r - tiles_above(z);
+  return {(u32)(o & ((1ull << z) - 1)), (u32)(o >> z), (u8)z};
 }
-// The low 29 bits of v at the even places; the reverse.
+// The low 32 bits of v at the even places; the reverse.
 inline u64 spread(u64 v) {
   v = (v | v << 16) & 0x0000ffff0000ffffull;
   v = (v | v << 8) & 0x00ff00ff00ff00ffull;
@@ -44,14 +57,22 @@ inline u32 gather(u64 v) {
 }
 // The quadkey digits as one number, two bits a digit.
 inline u64 morton(u32 x, u32 y) { return spread(x) | spread(y) << 1; }
-// List order: z, x, y.
-inline u64 order_key(Tile t) { return (u64)t.z << 58 | (u64)t.x << 29 | t.y; }
-inline u64 order_key_to_id(u64 k) { return to_id(k >> 29 & 0x1fffffff, k & 0x1fffffff, k >> 58); }
+// A number that rises in list order: z, x, y. It lies in [4^z, 2*4^z).
+inline u64 order_key(Tile t) { return ((1ull << t.z) + t.x) << t.z | t.y; }
+inline u64 order_key_entry(u64 k) {
+  u32 z = top_bit(k) / 2, mask = (1u << z) - 1;
+  return xyz2rmid(k >> z & mask, k & mask, z);
+}
 
-inline u64 list_hash(const u64* v, size_t n, u64 h = 0xCBF29CE484222325ull) {
-  for (size_t i = 0; i < n; i++) h = ((h << 5 | h >> 59) ^ v[i]) * 0x9E3779B97F4A7C15ull;
+constexpr u64 NO_ANSWERS = 0xCBF29CE484222325ull;
+// The hash of the answers so far and this one, n entries at v. number(e) is the xyz2rmid number of the peer's entry e.
+template <class Number>
+u64 answer_hash(u64 h, const u64* v, size_t n, Number number) {
+  h ^= n;
+  for (size_t i = 0; i < n; i++) h = ((h << 5 | h >> 59) ^ number(v[i])) * 0x9E3779B97F4A7C15ull;
   return h;
 }
+inline u64 same(u64 entry) { return entry; }
 
 inline List load(const std::string& path) {
   std::ifstream f(path, std::ios::binary);
@@ -138,8 +159,8 @@ Timing measure(Op op) {
 
 // One result line: peer, workload, size, operation, form, entries in, entries out, hash of the answer, best and
 // median time in ns of one call, repetitions.
-// form: 'list' is to_id lists in, to_id list in list order out; 'core' is the peer's own representation; 'call' a
-// single call.
+// form: 'list' is lists of entries in, a list of entries in list order out; 'core' is the peer's own representation;
+// 'call' a single call.
 inline void emit(const char* peer, const Job& j, const char* op, const char* form, size_t n_in, size_t n_out, u64 hash,
                  Timing t) {
   printf("%s\t%s\t%s\t%s\t%s\t%zu\t%zu\t%016llx\t%.1f\t%.1f\t%zu\n", peer, j.name.c_str(), j.size.c_str(), op, form,
@@ -147,14 +168,15 @@ inline void emit(const char* peer, const Job& j, const char* op, const char* for
   fflush(stdout);
 }
 
-// A timed sample is one call on each of the job's k lists. f(i, out) answers with the count; it writes at out.
-template <class Op>
-void run_list(const char* peer, const Job& j, const char* op, const char* form, u64* out, Op f) {
-  u64 h = 0xCBF29CE484222325ull;
+// A timed sample is one call on each of the job's k lists. f(i, out) answers with the count; it writes at out. The answers are
+// hashed before the timing, as xyz2rmid numbers.
+template <class Op, class Number = u64 (*)(u64)>
+void run_list(const char* peer, const Job& j, const char* op, const char* form, u64* out, Op f, Number number = same) {
+  u64 h = NO_ANSWERS;
   size_t total = 0;
   for (size_t i = 0; i < j.k; i++) {
     size_t c = f(i, out);
-    h = list_hash(out, c, h ^ c);
+    h = answer_hash(h, out, c, number);
     total += c;
   }
   Timing t = measure([&] {

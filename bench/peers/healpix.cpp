@@ -1,6 +1,6 @@
 // Times Healpix_cxx's Moc on the workloads (sorted ranges of order-29 pixels). A tile of zoom z is the nested pixel of order z in
-// base pixel 0 with the quadkey digits as its number. core: settle is sort of NUNIQ numbers, fromUniq, toUniq; the
-// area operations are ranges in, ranges out. list: to_id lists in and out.
+// base pixel 0 with the quadkey digits as its number: zoom 30 has none, and no list of the workloads a tile of it. core: settle is sort
+// of NUNIQ numbers, fromUniq, toUniq; the area operations are ranges in, ranges out. list: lists of entries in and out.
 #include <healpix_cxx/moc.h>
 
 #include "common.hpp"
@@ -12,7 +12,7 @@ using Uniq = std::vector<int64_t>;
 static Uniq uniqs(const u64* v, size_t n) {
   Uniq u(n);
   for (size_t i = 0; i < n; i++) {
-    Tile t = from_id(v[i]);
+    Tile t = rmid2xyz(v[i]);
     u[i] = morton(t.x, t.y) + (4ull << 2 * t.z);
   }
   return u;
@@ -29,7 +29,7 @@ static size_t to_list(const M& m, u64* o) {
     o[n++] = order_key({gather(q), gather(q >> 1), (u8)z});
   }
   std::sort(o, o + n);
-  for (size_t i = 0; i < n; i++) o[i] = order_key_to_id(o[i]);
+  for (size_t i = 0; i < n; i++) o[i] = order_key_entry(o[i]);
   return n;
 }
 

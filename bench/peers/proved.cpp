@@ -1,19 +1,35 @@
-// Times the proved library on the workloads, through its C header, under the name PEER.
+// Times the proved library on the workloads, through its C header, under the name PEER. Only the library says which number an entry is:
+// outside of the timing its entries are made of the workloads' numbers, and turned back into them before an answer is hashed. So an
+// earlier build, with other entries, is held to the same answers.
 #include "../../bindings/c/noripliers.h"
 #include "calls.hpp"
 
 static List out(8 << 20);
 
 // No call of the benchmark may be refused.
-static u64 counted(u8 refused, u64 count) {
+static u64 accepted(u8 refused, u64 answer) {
   if (refused) {
     fprintf(stderr, "unexpected refusal %d\n", refused);
     exit(1);
   }
-  return count;
+  return answer;
+}
+
+// The library's entry of a workload's number; the reverse.
+static u64 entry_of(u64 number) {
+  Tile t = rmid2xyz(number);
+  u64 entry;
+  u8 r = nori_entry(t.x, t.y, t.z, &entry);
+  return accepted(r, entry);
+}
+static u64 number_of(u64 entry) {
+  Tile t;
+  u8 r = nori_entry_tile(entry, &t.x, &t.y, &t.z);
+  return accepted(r, xyz2rmid(t.x, t.y, t.z));
 }
 
 struct ProvedCalls {
+  u64 number(u64 entry) { return number_of(entry); }
   u64 to_id(Tile t) {
     u64 id;
     nori_to_id(t.x, t.y, t.z, &id);
@@ -42,7 +58,7 @@ struct ProvedCalls {
   size_t xyz2quadkey(Tile t, char* o) {
     u64 n;
     u8 r = nori_xyz2quadkey(t.x, t.y, t.z, (u8*)o, NORI_MAX_ZOOM, &n);
-    return counted(r, n);
+    return accepted(r, n);
   }
   Tile parent(Tile t, u32 n) {
     Tile p;
@@ -51,28 +67,32 @@ struct ProvedCalls {
   size_t neighbors(Tile t, u64* o) {
     u64 n;
     u8 r = nori_neighbors(t.x, t.y, t.z, o, 8, &n);
-    return counted(r, n);
+    return accepted(r, n);
   }
   size_t children(Tile t, u32 to, u64* o) {
     u64 n;
     u8 r = nori_children(t.x, t.y, t.z, to, o, 1 << 14, &n);
-    return counted(r, n);
+    return accepted(r, n);
   }
 };
 
 // An operation on the lists of a job, given the index of the list and the memory lent.
 template <class Call>
 static void run(const Job& j, const char* op, Call call) {
-  run_list(PEER, j, op, "list", out.data(), [&](size_t i, u64* o) {
+  auto answer = [&](size_t i, u64* o) {
     u64 n;
     u8 r = call(i, o, &n);
-    return counted(r, n);
-  });
+    return accepted(r, n);
+  };
+  run_list(PEER, j, op, "list", out.data(), answer, number_of);
 }
 
 int main(int argc, char** argv) {
-  for (const Job& j : load_jobs(argc > 1 ? argv[1] : ".")) {
+  auto jobs = load_jobs(argc > 1 ? argv[1] : ".");
+  for (Job& j : jobs) {
     size_t places = out.size();
+    if (j.kind != "calls")
+      for (List* l : {&j.as, &j.bs}) std::transform(l->begin(), l->end(), l->begin(), entry_of);
     if (j.kind == "settle") {
       run(j, "settle", [&](size_t i, u64* o, u64* n) { return nori_simplify(j.a(i), j.na, 0, o, places, n); });
       run(j, "settle_v1", [&](size_t i, u64* o, u64* n) { return nori_simplify_v1(j.a(i), j.na, 0, o, places, n); });

@@ -8,9 +8,11 @@ use utiles_core as u;
 use utiles_core::merge::{merge, simplify, simplify_v1};
 use utiles_core::Tile;
 
-const H0: u64 = 0xCBF2_9CE4_8422_2325;
+const NO_ANSWERS: u64 = 0xCBF2_9CE4_8422_2325;
 
-fn list_hash(v: &[u64], mut h: u64) -> u64 {
+/// The hash of the answers so far and this one, as in the C++ runners.
+fn answer_hash(mut h: u64, v: &[u64]) -> u64 {
+    h ^= v.len() as u64;
     for &x in v {
         h = (h.rotate_left(5) ^ x).wrapping_mul(0x9E37_79B9_7F4A_7C15);
     }
@@ -22,7 +24,7 @@ struct Job {
     name: String,
     size: String,
     k: usize,
-    ids: Vec<u64>,
+    entries: Vec<u64>,
 }
 
 fn load(path: &Path) -> Vec<u64> {
@@ -34,7 +36,7 @@ fn load_jobs(dir: &Path) -> Vec<Job> {
     let text = std::fs::read_to_string(dir.join("manifest")).expect("manifest");
     let job = |line: &str| {
         let f: Vec<&str> = line.split(' ').collect();
-        Job { kind: f[0].into(), name: f[1].into(), size: f[2].into(), k: f[3].parse().unwrap(), ids: load(&dir.join(f[4])) }
+        Job { kind: f[0].into(), name: f[1].into(), size: f[2].into(), k: f[3].parse().unwrap(), entries: load(&dir.join(f[4])) }
     };
     text.lines().map(job).collect()
 }
@@ -84,34 +86,47 @@ fn emit(peer: &str, j: &Job, op: &str, form: &str, a: &Answered, t: (f64, f64, u
     println!("{peer}\t{}\t{}\t{op}\t{form}\t{n_in}\t{n_out}\t{hash:016x}\t{best:.1}\t{median:.1}\t{}", j.name, j.size, t.2);
 }
 
-fn to_set(ids: &[u64]) -> HashSet<Tile> {
-    ids.iter().map(|&id| u::from_id(id)).collect()
+/// What the Rust's `rmid2xyz` gives, found as the C++ runners do: its loop over the zooms is not what lists are timed for.
+fn tile_of(entry: u64) -> Tile {
+    // 3 * entry + 1 lies in [4^z, 4^(z+1))
+    let z = (63 - (3 * entry + 1).leading_zeros()) / 2;
+    let o = entry - tiles_above(z);
+    Tile { x: (o & ((1 << z) - 1)) as u32, y: (o >> z) as u32, z: z as u8 }
+}
+
+fn entry_of(t: &Tile) -> u64 {
+    tiles_above(u32::from(t.z)) + u64::from(t.x) + (u64::from(t.y) << t.z)
+}
+
+/// How many tiles the zooms above z have.
+fn tiles_above(z: u32) -> u64 {
+    0x1555_5555_5555_5555 >> (62 - 2 * z)
+}
+
+fn to_set(entries: &[u64]) -> HashSet<Tile> {
+    entries.iter().map(|&e| tile_of(e)).collect()
 }
 
 fn to_list(set: &HashSet<Tile>) -> Vec<u64> {
     let mut v: Vec<Tile> = set.iter().copied().collect();
     v.sort_unstable();
-    v.iter().map(id_of).collect()
+    v.iter().map(entry_of).collect()
 }
 
-fn id_of(t: &Tile) -> u64 {
-    u::to_id(t.x, t.y, t.z)
-}
-
-/// form core: HashSet in, HashSet out. form list: to_id list in, to_id list in list order out.
+/// form core: HashSet in, HashSet out. form list: list of entries in, list of entries in list order out.
 fn run_set(peer: &str, j: &Job, op: &str, f: impl Fn(&HashSet<Tile>) -> HashSet<Tile>) {
-    let n = j.ids.len() / j.k;
-    let sets: Vec<HashSet<Tile>> = j.ids.chunks(n).map(to_set).collect();
-    let (mut h, mut total) = (H0, 0);
+    let n = j.entries.len() / j.k;
+    let sets: Vec<HashSet<Tile>> = j.entries.chunks(n).map(to_set).collect();
+    let (mut h, mut total) = (NO_ANSWERS, 0);
     for s in &sets {
         let out = to_list(&f(s));
-        h = list_hash(&out, h ^ out.len() as u64);
+        h = answer_hash(h, &out);
         total += out.len();
     }
     let a = Answered(n, total / j.k, h);
     let t = measure(|| sets.iter().for_each(|s| _ = black_box(f(black_box(s)))));
     emit(peer, j, op, "core", &a, t, j.k);
-    let t = measure(|| j.ids.chunks(n).for_each(|ids| _ = black_box(to_list(&f(&to_set(black_box(ids)))))));
+    let t = measure(|| j.entries.chunks(n).for_each(|v| _ = black_box(to_list(&f(&to_set(black_box(v)))))));
     emit(peer, j, op, "list", &a, t, j.k);
 }
 
@@ -142,19 +157,19 @@ fn short_calls(
     rmid2xyz: impl Fn(u64) -> Xyz,
     parent: impl Fn(u32, u32, u8, Option<u8>) -> Option<Tile>,
 ) {
-    let tiles: Vec<Tile> = j.ids.iter().map(|&id| u::from_id(id)).collect();
-    let rmids: Vec<u64> = tiles.iter().map(|t| u::xyz2rmid(t.x, t.y, t.z)).collect();
+    let tiles: Vec<Tile> = j.entries.iter().map(|&e| tile_of(e)).collect();
+    let ids: Vec<u64> = tiles.iter().map(|t| u::to_id(t.x, t.y, t.z)).collect();
     let one = |op: &str, f: &dyn Fn() -> u64| one(peer, j, op, tiles.len(), f);
     one("to_id", &|| tiles.iter().fold(0, |h, t| fold(h, to_id(t.x, t.y, t.z))));
     one("from_id", &|| {
-        j.ids.iter().fold(0, |h, &id| {
+        ids.iter().fold(0, |h, &id| {
             let t = from_id(id);
             fold_tile(h, t.x, t.y, t.z)
         })
     });
     one("xyz2rmid", &|| tiles.iter().fold(0, |h, t| fold(h, xyz2rmid(t.x, t.y, t.z))));
     one("rmid2xyz", &|| {
-        rmids.iter().fold(0, |h, &r| {
+        j.entries.iter().fold(0, |h, &r| {
             let (x, y, z) = rmid2xyz(r);
             fold_tile(h, x, y, z)
         })
@@ -168,7 +183,7 @@ fn short_calls(
 }
 
 fn long_calls(j: &Job) {
-    let tiles: Vec<Tile> = j.ids.iter().map(|&id| u::from_id(id)).collect();
+    let tiles: Vec<Tile> = j.entries.iter().map(|&e| tile_of(e)).collect();
     let keys: Vec<String> = tiles.iter().map(|t| u::xyz2quadkey(t.x, t.y, t.z)).collect();
     let n = tiles.len();
     one("rust", j, "quadkey2xyz", n, || {
@@ -184,21 +199,24 @@ fn long_calls(j: &Job) {
             fold(h, u64::from(b[0]) << 16 | u64::from(b[b.len() - 1]) << 8 | b.len() as u64)
         })
     });
-    one("rust", j, "neighbors", n, || {
-        tiles.iter().fold(0, |h, t| {
-            let v = u::neighbors(t.x, t.y, t.z);
-            fold(h, id_of(&v[0]) ^ id_of(&v[v.len() - 1]) ^ v.len() as u64)
-        })
-    });
+    write_entries(j, "neighbors", &tiles, |t| u::neighbors(t.x, t.y, t.z));
     for d in [1u8, 4, 6] {
+        // As children_input of the C++ runners.
         let ts: Vec<Tile> = tiles.iter().copied().filter(|t| t.z <= 23).take(65536 >> (2 * d)).collect();
-        one("rust", j, &format!("children+{d}"), ts.len(), || {
-            ts.iter().fold(0, |h, t| {
-                let v = u::children(t.x, t.y, t.z, Some(t.z + d));
-                fold(h, id_of(&v[0]) ^ id_of(&v[v.len() / 2]) ^ id_of(&v[v.len() - 1]) ^ v.len() as u64)
-            })
-        });
+        write_entries(j, &format!("children+{d}"), &ts, |t| u::children(t.x, t.y, t.z, Some(t.z + d)));
     }
+}
+
+/// The calls that give tiles, which elsewhere are entries: the hash that is compared is taken before the timing, as in the C++ runners.
+fn write_entries(j: &Job, op: &str, tiles: &[Tile], f: impl Fn(&Tile) -> Vec<Tile>) {
+    let h = tiles.iter().fold(NO_ANSWERS, |h, t| answer_hash(h, &f(t).iter().map(entry_of).collect::<Vec<u64>>()));
+    let t = measure(|| {
+        _ = black_box(tiles.iter().fold(0, |used, t| {
+            let v = f(t);
+            fold(used, entry_of(&v[0]) ^ entry_of(&v[v.len() - 1]) ^ v.len() as u64)
+        }))
+    });
+    emit("rust", j, op, "call", &Answered(tiles.len(), tiles.len(), h), t, 1);
 }
 
 fn main() {

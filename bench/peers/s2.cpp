@@ -1,5 +1,5 @@
 // Times S2's S2CellUnion on the workloads. A tile of zoom z is the cell of level z in face 0 whose child positions are its quadkey
-// digits, so the trees have the same shape. core: cell ids in S2's own form in and out; list: to_id lists.
+// digits, so the trees have the same shape. core: cell ids in S2's own form in and out; list: lists of entries.
 #include <s2/s2cell_id.h>
 #include <s2/s2cell_union.h>
 
@@ -7,8 +7,8 @@
 
 static List out(8 << 20);
 
-static S2CellId cell(u64 id) {
-  Tile t = from_id(id);
+static S2CellId cell(u64 entry) {
+  Tile t = rmid2xyz(entry);
   return S2CellId(morton(t.x, t.y) << (61 - 2 * t.z) | 1ull << (60 - 2 * t.z));
 }
 static u64 order_key(S2CellId c) {
@@ -20,7 +20,7 @@ static size_t to_list(const S2CellUnion& u, u64* o) {
   size_t n = 0;
   for (S2CellId c : u) o[n++] = order_key(c);
   std::sort(o, o + n);
-  for (size_t i = 0; i < n; i++) o[i] = order_key_to_id(o[i]);
+  for (size_t i = 0; i < n; i++) o[i] = order_key_entry(o[i]);
   return n;
 }
 static std::vector<S2CellId> cells(const u64* v, size_t n) {
