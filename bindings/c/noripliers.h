@@ -50,7 +50,7 @@ extern "C" {
 /* The deepest zoom. */
 #define NORI_MAX_ZOOM 30
 
-/* The deepest zoom that has numbers of `to_id`: below it they would not fit 64 bits. */
+/* The deepest zoom of the numbers of `to_id`: those of deeper ones would not fit 64 bits. */
 #define NORI_MAX_ID_ZOOM 29
 
 /* The most entries of a list, of tiles or of zooms. */
@@ -299,7 +299,9 @@ NORI_NODISCARD uint8_t nori_to_id(uint32_t x, uint32_t y, uint8_t z, uint64_t *i
  * Refused: 7. */
 NORI_NODISCARD uint8_t nori_from_id(uint64_t id, uint32_t *tx, uint32_t *ty, uint8_t *tz);
 
-/* The number that stands for a tile in every list of tiles.
+/* The number that stands for a tile in every list of tiles: that of nori_xyz2rmid. Up to version
+ * 0.3.0 it was that of nori_to_id, so stored entries of that time have to be turned over, by
+ * nori_from_id and this call.
  * Refused: 1, 2. */
 NORI_NODISCARD uint8_t nori_entry(uint32_t x, uint32_t y, uint8_t z, uint64_t *entry);
 

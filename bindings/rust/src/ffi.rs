@@ -6,7 +6,7 @@ pub const VERSION: u32 = 400;
 /// The deepest zoom.
 pub const MAX_ZOOM: u8 = 30;
 
-/// The deepest zoom that has numbers of `to_id`: below it they would not fit 64 bits.
+/// The deepest zoom of the numbers of `to_id`: those of deeper ones would not fit 64 bits.
 pub const MAX_ID_ZOOM: u8 = 29;
 
 /// The most entries of a list, of tiles or of zooms.
@@ -204,7 +204,7 @@ unsafe extern "C" {
     pub safe fn nori_to_id(x: u32, y: u32, z: u8, id: &mut u64) -> u8;
     /// The tile of a number of nori_to_id: none has a zoom above NORI_MAX_ID_ZOOM.
     pub safe fn nori_from_id(id: u64, tx: &mut u32, ty: &mut u32, tz: &mut u8) -> u8;
-    /// The number that stands for a tile in every list of tiles.
+    /// The number that stands for a tile in every list of tiles: that of nori_xyz2rmid.
     pub safe fn nori_entry(x: u32, y: u32, z: u8, entry: &mut u64) -> u8;
     /// The tile that a number in a list stands for.
     pub safe fn nori_entry_tile(entry: u64, tx: &mut u32, ty: &mut u32, tz: &mut u8) -> u8;

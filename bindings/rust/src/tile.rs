@@ -174,8 +174,9 @@ impl Tile {
         given(|x, y, z| ffi::nori_entry_tile(entry, x, y, z))
     }
 
-    /// The number that stands for the tile in the lists of [`lent`](crate::lent). Which number that
-    /// is may change with the library: it is for its calls, and not for a file.
+    /// The number that stands for the tile in the lists of [`lent`](crate::lent): that of
+    /// [`Tile::rmid`]. Up to version 0.3.0 it was that of [`to_id`](crate::to_id), so keep tiles or
+    /// keys in a file, and not entries.
     ///
     /// # Examples
     /// ```
@@ -186,6 +187,7 @@ impl Tile {
     /// let mut out = [0; 4];
     /// assert_eq!(lent::simplify(&list, 0, &mut out)?, 1);
     /// assert_eq!(out[0], Tile::root().entry());
+    /// assert_eq!(tiles[3].entry(), tiles[3].rmid());
     /// # Ok::<(), noripliers::Error>(())
     /// ```
     #[must_use]

@@ -176,7 +176,8 @@ pub extern "C" fn nori_from_id(id: u64, tx: &mut u32, ty: &mut u32, tz: &mut u8)
     c_ids::from_id(id, tx, ty, tz)
 }
 
-// The number that stands for a tile in every list of tiles.
+// The number that stands for a tile in every list of tiles: that of nori_xyz2rmid. Up to version 0.3.0 it was that of nori_to_id, so stored
+// entries of that time have to be turned over, by nori_from_id and this call.
 // Refused: 1, 2.
 #[no_mangle]
 pub extern "C" fn nori_entry(x: u32, y: u32, z: u8, entry: &mut u64) -> u8
