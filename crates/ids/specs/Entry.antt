@@ -1,19 +1,19 @@
 -- The number that stands for a tile in a list, by this one name: the one of `xyz2rmid`. Callers use the laws below, and not which
 -- number it is.
-use mathlib.Core.Path.{_≡_, refl, sym, ap, _∙_}
-use mathlib.Core.Bool.{Bool, true, false, not, _&&_}
+use mathlib.Core.Path.{_≡_}
+use mathlib.Core.Bool.{Bool}
 use mathlib.Core.List.{List, map}
-use Prim.Native.Nat.{ℕ}
-use native.Mathlib.Omega.{arith}
+use Prim.Native.Nat.{ℕ, _-_, _*_, _^_}
 use lib.Dec.{eqb}
-use borrow.Author.Tests.{eqb-true}
-use Rattle.errors.specs.Answer.{Answer, answer, _when_}
-use Rattle.errors.specs.Laws.{answer-found}
-use Rattle.tile.specs.OnMap.{OnMap, tileAt, noTile, tileCase}
+use Rattle.constants.specs.Limits.{maxZoom}
+use Rattle.errors.specs.Answer.{Answer, answer}
+use Rattle.errors.specs.Cases.{refusedAs}
+use Rattle.tile.specs.OnMap.{OnMap, tileAt, noTile}
 use Rattle.tile.specs.declared.Tile.{Tile}
-use Rattle.tile.specs.declared.TileAnswer.{TileAnswer}
-use Rattle.tile.specs.declared.TileAnswer.the-variants.{Found}
 use Rattle.ids.specs.Levels.{rmid-again, rmid-tile-again, rmid-accepted, accepted-rmid}
+use Rattle.ids.specs.declared.Corner.{Corner}
+use Rattle.ids.specs.declared.CornerAnswer.{CornerAnswer}
+use Rattle.ids.specs.declared.CornerAnswer.the-variants.{Found, Refused}
 use Rattle.ids.specs.Rmid.{rmid, rmidTile, rmidRefusal}
 
 unfoldable pub entryOf : ℕ → ℕ → ℕ → ℕ
@@ -35,9 +35,19 @@ isEntry n = eqb (entryRefusal n) 0
 abbrev pub entryTileOf : ℕ → Answer Tile
 entryTileOf n = answer (entryRefusal n) noTile (entryTile n)
 
--- the tile of an entry of zoom z, and of no other number
-abbrev pub entryOfZoom : ℕ → ℕ → Answer Tile
-entryOfZoom n z = answer (7 when not (isEntry n && eqb (entryTile n .z) z)) noTile (entryTile n)
+-- a tile by the first of the deepest tiles inside it
+abbrev pub cornerOf : Tile → Corner
+cornerOf t = let b = maxZoom - t .z in record { x = t .x * 2 ^ b; y = t .y * 2 ^ b; below = b }
+
+abbrev pub noCorner : Corner
+noCorner = record { x = 0; y = 0; below = 0 }
+
+abbrev pub cornerCase : CornerAnswer → Answer Corner
+cornerCase (Found c) = record { number = 0; value = c }
+cornerCase (Refused why) = refusedAs why noCorner
+
+abbrev pub entryCornerOf : ℕ → Answer Corner
+entryCornerOf n = answer (entryRefusal n) noCorner (cornerOf (entryTile n))
 
 pub entry-accepted : (n : ℕ) → OnMap (entryTile n .x) (entryTile n .y) (entryTile n .z) → entryRefusal n ≡ 0
 unfolding entryTile entryRefusal
@@ -55,13 +65,3 @@ entry-again = rmid-again
 pub entry-tile-again : (x y z : ℕ) → OnMap x y z → entryTile (entryOf x y z) ≡ tileAt x y z
 unfolding entryOf entryTile
 entry-tile-again = rmid-tile-again
-
--- what a caller is told that asks for an entry of a zoom
-pub of-zoom-found : {r : TileAnswer} {t : Tile} (n z : ℕ) → tileCase r ≡ entryOfZoom n z → r ≡ Found t → (entryRefusal n ≡ 0) × (t ≡ entryTile n)
-of-zoom-found n z e p =
-    let f = answer-found (7 when not (isEntry n && eqb (entryTile n .z) z)) noTile (entryTile n) _ (sym (ap tileCase p) ∙ e) in
-    (fine (isEntry n) (eqb (entryTile n .z) z) refl (f .0), f .1)
-  where
-    fine : (a b : Bool) → isEntry n ≡ a → 7 when not (a && b) ≡ 0 → entryRefusal n ≡ 0
-    fine true b q h = eqb-true _ _ q
-    fine false b q h = absurd (omega arith)

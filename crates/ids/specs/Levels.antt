@@ -1,17 +1,16 @@
 -- Row-major numbers zoom by zoom: where the numbers of a zoom start, that they fit, and the zoom and the place of a number.
-use mathlib.Core.Path.{_≡_, refl, sym, ap, subst, _∙_}
-use mathlib.Core.Logic.{_↔_}
-use mathlib.Core.Bool.{Bool, true, false, cond, _&&_}
+use mathlib.Core.Path.{_≡_, refl, sym, ap, _∙_}
+use mathlib.Core.Bool.{Bool, true, false, cond}
 use Prim.Native.Nat.{ℕ, zero, suc, _+_, _-_, _*_, _/_, _%_, _^_, _≤_, _<_}
 use native.Mathlib.Decide.{decLe}
-use native.Mathlib.Nat.{lt-of-lt-of-le, pow-suc, mul-div-cancel, mod-lt, div-add-mod', div-lt-iff-lt-mul}
+use native.Mathlib.Nat.{lt-of-lt-of-le, pow-suc, mul-div-cancel, mod-lt, div-add-mod', div-lt-iff-lt-mul, mul-lt-mul-of-pos-right, mul-le-mul}
 use native.Mathlib.Numerals.{add-one}
 use native.Mathlib.Omega.{arith}
 use lib.Arith.{digits-lt, digits-div, digits-mod}
 use lib.Count.{leadingZeros, leading-length}
-use lib.Dec.{leb, eqb}
+use lib.Dec.{leb}
 use lib.Pow.{pow-pos, pow-mono, pow-add}
-use borrow.Author.Tests.{lt-leb, leb-true, leb-false, eqb-true}
+use borrow.Author.Tests.{lt-leb, leb-true, leb-false}
 use Rattle.constants.specs.Limits.{maxZoom, maxZoom-small}
 use Rattle.errors.specs.Answer.{_when_}
 use Rattle.tile.specs.OnMap.{OnMap, tileAt}
@@ -141,26 +140,6 @@ rmid-holds n e = limit-holds n (below (leb rmidLimit n) refl e)
     below true p e = absurd (omega arith)
     below false p e = leb-false _ _ p
 
--- a number in a zoom of the map is below the limit, and of that zoom; one that is not is refused
-pub in-zoom : (n z : ℕ) → z ≤ maxZoom → InZoom n z → (n < rmidLimit) × (zoomOf n ≡ z)
-in-zoom n z h i =
-    let l : n < rmidLimit = rw (add-one maxZoom) (lt-of-lt-of-le (i .below) (start-mono (suc z) (suc maxZoom) (omega arith))) in
-    (l, one-zoom n (zoomOf n) z (limit-holds n l .0) i)
-
-pub not-in-zoom : (n z : ℕ) → (InZoom n z → ⊥) → (eqb (rmidRefusal n) 0 && eqb (zoomOf n) z) ≡ false
-not-in-zoom n z out = pick (leb rmidLimit n) refl (eqb (zoomOf n) z) refl
-  where
-    pick : (a : Bool) → leb rmidLimit n ≡ a → (b : Bool) → eqb (zoomOf n) z ≡ b → (eqb (7 when a) 0 && b) ≡ false
-    pick true p b q = refl
-    pick false p true q = absurd (out (subst (InZoom n) (eqb-true _ _ q) (limit-holds n (leb-false _ _ p) .0)))
-    pick false p false q = refl
-
--- as the code tests it: a place within zoom z has no binary digits above 2z
-pub offset-within : (o z : ℕ) → o / 2 ^ (2 * z) < 1 ↔ o < 4 ^ z
-offset-within o z =
-    let e : o / 2 ^ (2 * z) < 1 ↔ o < 1 * 2 ^ (2 * z) = div-lt-iff-lt-mul (pow-pos (2 * z)) in
-    (λ h. omega (arith, e .0 h, four-side z), λ h. e .1 (omega (arith, four-side z)))
-
 -- three times such a number, and one, fits 64 bits
 pub thrice-fits : (n : ℕ) → n < rmidLimit → 3 * n + 1 < 2 ^ 63
 thrice-fits n h = omega (arith, h, start-mono (maxZoom + 1) 31 (omega (arith, maxZoom-small)), power-start 31)
@@ -197,3 +176,26 @@ accepted-rmid n e =
     let o = offsetOf n in
     let z = zoomOf n in
     record { zoom = h .1; column = offset-column o z; row = offset-row o z (offset-in-zoom n z (h .0)) }
+
+-- a place shifted to the deepest zoom parts there into its row, and the column of its tile's corner
+pub aligned : (o z : ℕ) → z ≤ maxZoom
+    → (o * 2 ^ (maxZoom - z) ≡ o / 2 ^ z * 2 ^ maxZoom + o % 2 ^ z * 2 ^ (maxZoom - z)) × (o % 2 ^ z * 2 ^ (maxZoom - z) < 2 ^ maxZoom)
+aligned o z h =
+    let b = maxZoom - z in
+    let s : z + b ≡ maxZoom = omega arith in
+    let p : 2 ^ z * 2 ^ b ≡ 2 ^ maxZoom = sym (pow-add 2 z b) ∙ ap (λ (n : ℕ). 2 ^ n) s in
+    let d : o * 2 ^ b ≡ (o / 2 ^ z * 2 ^ z + o % 2 ^ z) * 2 ^ b = ap (λ (n : ℕ). n * 2 ^ b) (sym (div-add-mod' o (2 ^ z))) in
+    let e : (o / 2 ^ z * 2 ^ z + o % 2 ^ z) * 2 ^ b ≡ o / 2 ^ z * (2 ^ z * 2 ^ b) + o % 2 ^ z * 2 ^ b = omega arith in
+    (d ∙ (e ∙ ap (λ (n : ℕ). o / 2 ^ z * n + o % 2 ^ z * 2 ^ b) p), rw (← p) (mul-lt-mul-of-pos-right (offset-column o z) (pow-pos b)))
+
+-- and fits the deepest zoom, as its row does
+pub aligned-small : (o z : ℕ) → z ≤ maxZoom → o < 2 ^ z * 2 ^ z → (o * 2 ^ (maxZoom - z) < 2 ^ 60) × (o / 2 ^ z * 2 ^ (maxZoom - z) < 2 ^ maxZoom)
+aligned-small o z h l =
+    let b = maxZoom - z in
+    let s : z + b ≡ maxZoom = omega arith in
+    let p : 2 ^ z * 2 ^ b ≡ 2 ^ maxZoom = sym (pow-add 2 z b) ∙ ap (λ (n : ℕ). 2 ^ n) s in
+    let m : 2 ^ maxZoom ≤ 2 ^ 30 = pow-mono {j = 30} maxZoom-small in
+    let r : o / 2 ^ z * 2 ^ b < 2 ^ maxZoom = rw (← p) (mul-lt-mul-of-pos-right (offset-row o z l) (pow-pos b)) in
+    let q : o / 2 ^ z < 2 ^ maxZoom = lt-of-lt-of-le (offset-row o z l) (pow-mono h) in
+    let a = aligned o z h in
+    (rw (a .0) (lt-of-lt-of-le (digits-lt q (a .1)) (mul-le-mul m m)), r)

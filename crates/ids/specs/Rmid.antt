@@ -1,7 +1,7 @@
 -- Row-major numbers: the tiles of all zooms above, then the tile's place in its own zoom, row by row.
-use mathlib.Core.Bool.{cond, not, _&&_}
+use mathlib.Core.Bool.{cond}
 use Prim.Native.Nat.{ℕ, zero, suc, _+_, _-_, _*_, _/_, _%_, _^_}
-use lib.Dec.{leb, eqb}
+use lib.Dec.{leb}
 use Rattle.constants.specs.Limits.{maxZoom}
 use Rattle.errors.specs.Answer.{Answer, answer, _when_}
 use Rattle.errors.specs.Cases.{refusedAs}
@@ -52,7 +52,3 @@ rmidTile n = tileAt (offsetOf n % 2 ^ zoomOf n) (offsetOf n / 2 ^ zoomOf n) (zoo
 
 abbrev pub fromRmidOf : ℕ → Answer Tile
 fromRmidOf n = answer (rmidRefusal n) noTile (rmidTile n)
-
--- the tile of a number of zoom z
-abbrev pub rmidOfZoom : ℕ → ℕ → Answer Tile
-rmidOfZoom n z = answer (7 when not (eqb (rmidRefusal n) 0 && eqb (zoomOf n) z)) noTile (rmidTile n)

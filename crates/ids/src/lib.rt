@@ -12,9 +12,9 @@ ghost use lib.Dec.{leb};
 ghost use Rattle.constants.specs.Limits.{maxZoom};
 ghost use Rattle.errors.specs.Cases.{u64Case};
 ghost use Rattle.tile.specs.OnMap.{OnMap, tileAt, tileCase};
-ghost use Rattle.ids.specs.Entry.{entryOf, entryTileOf, entryOfZoom};
+ghost use Rattle.ids.specs.Entry.{entryOf, entryTileOf, cornerCase, entryCornerOf};
 ghost use Rattle.ids.specs.Id.{HasId, idOf, toIdOf, fromIdOf};
-ghost use Rattle.ids.specs.Rmid.{levelStart, rmid, rmidLimit, toRmidOf, zoomOf, offsetZoomCase, offsetZoomOf, fromRmidOf, rmidOfZoom};
+ghost use Rattle.ids.specs.Rmid.{levelStart, rmid, rmidLimit, toRmidOf, zoomOf, offsetZoomCase, offsetZoomOf, fromRmidOf};
 
 // The number (2^(z + 1) * y + x) * 32 + z of a tile, of a zoom where it fits 64 bits.
 pub fn to_id(x: u32, y: u32, z: u8) -> U64Answer
@@ -76,24 +76,35 @@ pub fn entry_tile(entry: u64) -> TileAnswer
     rmid2xyz(entry)
 }
 
-// The tile that an entry of zoom z stands for, and none for any other number: many in a list have one zoom, which need not be found
-// for each.
-pub fn entry_of_zoom(entry: u64, z: u8) -> TileAnswer
-    requires { ⌜ z ≤ maxZoom ⌝ }
-    ensures { λ r. ⌜ tileCase r ≡ entryOfZoom entry z ⌝ }
-{
-    rmid_of_zoom(entry, z)
+// A tile by the first of the deepest tiles inside it, and how many zooms these lie below it.
+pub struct Corner {
+    pub x: u32,
+    pub y: u32,
+    pub below: u8,
 }
 
-// The tile that a number in a list stands for, quicker where it is of the zoom expected.
-pub fn entry_tile_from(entry: u64, expected: u8) -> TileAnswer
-    requires { ⌜ expected ≤ maxZoom ⌝ }
-    ensures { λ r. ⌜ tileCase r ≡ entryTileOf entry ⌝ }
+pub enum CornerAnswer {
+    Found(Corner),
+    Refused(Refusal),
+}
+
+// The corner of the tile that a number in a list stands for: it comes cheaper than the tile, since column and row part at one place
+// whatever the zoom.
+pub fn entry_corner(entry: u64) -> CornerAnswer
+    ensures { λ r. ⌜ cornerCase r ≡ entryCornerOf entry ⌝ }
 {
-    match entry_of_zoom(entry, expected) {
-        TileAnswer::Found(t) => TileAnswer::Found(t),
-        TileAnswer::Refused(_) => entry_tile(entry),
+    if past_limit(entry) {
+        return CornerAnswer::Refused(Refusal::NoTile);
     }
+    let z = zoom_of(entry);
+    let below = MAX_ZOOM - z;
+    let aligned = (entry - level_start(z)) << below;
+    let row = aligned >> MAX_ZOOM;
+    CornerAnswer::Found(Corner {
+        x: (aligned - (row << MAX_ZOOM)) as u32,
+        y: (row << below) as u32,
+        below,
+    })
 }
 
 // A row-major number taken apart: the place within its zoom, and the zoom.
@@ -171,22 +182,6 @@ pub fn rmid2xyz(i: u64) -> TileAnswer
     }
     let z = zoom_of(i);
     TileAnswer::Found(tile_at(i - level_start(z), z))
-}
-
-// The tile of a number of `xyz2rmid` that is of zoom z, and of no other number.
-fn rmid_of_zoom(i: u64, z: u8) -> TileAnswer
-    requires { ⌜ z ≤ maxZoom ⌝ }
-    ensures { λ r. ⌜ tileCase r ≡ rmidOfZoom i z ⌝ }
-{
-    let start = level_start(z);
-    if i < start {
-        return TileAnswer::Refused(Refusal::NoTile);
-    }
-    let offset = i - start;
-    if offset >> (2 * z) > 0 {
-        return TileAnswer::Refused(Refusal::NoTile);
-    }
-    TileAnswer::Found(tile_at(offset, z))
 }
 
 // The tile at a place within its zoom: a row above z binary digits, and a column below them.

@@ -4,5 +4,6 @@ pub mod LowestBit
 pub mod RankOrder
 pub mod OneTile
 pub mod Digits
+pub mod Corners
 pub mod Lists
 pub mod Locations

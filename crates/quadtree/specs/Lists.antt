@@ -12,7 +12,8 @@ use lib.Seq.{take-all, length-take-le, getD-drop, getD-append-add}
 use borrow.Author.Tests.{eqb-true}
 use Rattle.bits.specs.Tests.{not-true, not-false, allOf, all-in, getD-in}
 use Rattle.errors.specs.Memory.{front, front-length, front-more}
-use Rattle.ids.specs.Entry.{entryOf, entryTile, isEntry, accepted-entry}
+use Rattle.ids.specs.Entry.{entryOf, entryTile, isEntry, accepted-entry, cornerOf}
+use Rattle.ids.specs.declared.Corner.{Corner}
 use Rattle.tile.specs.declared.Tile.{Tile}
 use Rattle.quadtree.specs.OneTile.{morton-tile, location-tile}
 use Rattle.quadtree.specs.declared.Key.{Key}
@@ -52,6 +53,15 @@ by-tile P k each = subst P (k .number) (each (k .tile) (k .on-map))
 
 abbrev pub TileNumbers : (Tile → ℕ) → List ℕ → Type 0
 TileNumbers f l = (n : ℕ) → List·Memᴰ n l → TileNumber f n
+
+-- c is the corner of a tile of the map; k is the key of whatever tile that is
+pub record TileCorner (c : Corner) : Type 0 where
+  pub tile : Tile
+  pub on-map : OfMap tile
+  pub corner : c ≡ cornerOf tile
+
+abbrev pub KeyAt : Key → Corner → ℕ → Type 0
+KeyAt by c k = (t : Tile) → OfMap t → c ≡ cornerOf t → k ≡ sortKey by t
 
 -- what `keys` answers of a list, and leaves where all of it are entries
 pub record Keyed (by : Key) (list left : List ℕ) (fine : Bool) : Type 0 where
@@ -100,11 +110,6 @@ pub record Mapped (f : ℕ → ℕ) (list memory : List ℕ) (i : ℕ) (left : L
   pub within : i ≤ length list
   pub written : left ≡ front i (map f list) memory
 
--- of a list's first n the keys are written so, and they are entries: all of it are, if those from n on are
-pub record KeyedTo (by : Key) (list memory : List ℕ) (n : ℕ) (left : List ℕ) : Type 0 where
-  pub rest : allOf isEntry list ≡ allOf isEntry (drop n list)
-  pub mapped : Mapped (entryKey by) list memory n left
-
 module _ {f : ℕ → ℕ} {list memory left : List ℕ} {i : ℕ} (m : Mapped f list memory i left) where
   pub mapped-length : length left ≡ length memory
   mapped-length =
@@ -132,6 +137,3 @@ module _ {f : ℕ → ℕ} {list memory left : List ℕ} {i : ℕ} (m : Mapped f
       let e = length-map list f in
       m .written ∙ rw (take-all i (map f list) (omega arith), drop-of-length-le memory {i = i} (omega (arith, m .same)))
       (append-nil (map f list))
-
-pub keyed-length : {by : Key} {list memory left : List ℕ} {n : ℕ} → KeyedTo by list memory n left → length left ≡ length list
-keyed-length k = mapped-length (k .mapped) ∙ sym (k .mapped .same)

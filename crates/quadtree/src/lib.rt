@@ -1,16 +1,18 @@
 // Numbers of tiles by which lists are sorted, and whole lists turned from one number to the next.
 use constants::MAX_ZOOM;
+use ids::Corner;
+use ids::CornerAnswer;
 use tile::Tile;
-use tile::TileAnswer;
 ghost use mathlib.Core.Path.{_≡_};
-ghost use mathlib.Core.List.{List, map};
-ghost use Prim.Native.Nat.{ℕ, _<_, _≤_};
+ghost use mathlib.Core.List.{map};
+ghost use Prim.Native.Nat.{_+_, _*_, _^_, _<_, _≤_};
 ghost use lib.ListN.{length};
 ghost use Rattle.constants.specs.Limits.{maxZoom};
+ghost use Rattle.tile.specs.OnMap.{OnMap};
 ghost use Rattle.quadtree.specs.Digits.{apart};
-ghost use Rattle.quadtree.specs.Lists.{sortKey, keyRank, rankEntry, TileNumber, TileNumbers, Keyed, KeyedTo};
+ghost use Rattle.quadtree.specs.Lists.{sortKey, keyRank, rankEntry, TileNumber, TileNumbers, TileCorner, KeyAt, Keyed};
 ghost use Rattle.quadtree.specs.Locations.{IsLocation, lowOf};
-ghost use Rattle.quadtree.specs.Numbers.{OfMap, mortonOf, locationOf, rankOf, zoomIn, evenBits, mortonTile, locationTile};
+ghost use Rattle.quadtree.specs.Numbers.{OfMap, mortonAt, mortonOf, locationOf, rankOf, zoomIn, evenBits, mortonTile, locationTile};
 
 // The number of a tile that a list is sorted by.
 pub enum Key {
@@ -50,12 +52,17 @@ pub fn morton(t: Tile) -> u64
     bits::wide_pow2(2 * t.z) + spread(t.x) + 2 * spread(t.y)
 }
 
-// A tile's locational code.
-pub fn location(t: Tile) -> u64
-    requires { ⌜ OfMap t ⌝ }
-    ensures { λ r. ⌜ r ≡ locationOf t ⌝ }
+// A tile's locational code, by its corner: the Morton code of the corner, and half of the tile's run.
+fn location(c: Corner) -> u64
+    requires { ⌜ OnMap (c .x) (c .y) maxZoom × (c .below ≤ maxZoom) ⌝ }
+    ensures { λ r. ⌜ r ≡ 2 * mortonAt (c .x) (c .y) maxZoom + 4 ^ c .below ⌝ }
 {
-    (2 * morton(t) + 1) << (2 * (MAX_ZOOM - t.z))
+    let first = Tile {
+        x: c.x,
+        y: c.y,
+        z: MAX_ZOOM,
+    };
+    2 * morton(first) + (1u64 << (2 * c.below))
 }
 
 // The zoom of a Morton code or a rank.
@@ -93,13 +100,15 @@ pub fn rank_of_location(p: u64) -> u64
     rank_of_morton(p >> (u64::trailing_zeros(p) + 1))
 }
 
-fn key_of(t: Tile, by: Key) -> u64
-    requires { ⌜ OfMap t ⌝ }
-    ensures { λ r. ⌜ r ≡ sortKey by t ⌝ }
+// A Morton code stands above the lowest set bit of its location.
+fn key_of(c: Corner, by: Key) -> u64
+    requires { ⌜ TileCorner c ⌝ }
+    ensures { λ r. ⌜ KeyAt by c r ⌝ }
 {
+    let p = location(c);
     match by {
-        Key::Location => location(t),
-        Key::Morton => morton(t),
+        Key::Location => p,
+        Key::Morton => p >> (2 * c.below + 1),
     }
 }
 
@@ -121,60 +130,18 @@ fn entry_of_rank(r: u64, z: u8) -> u64
     ids::entry((column - (1 << z)) as u32, (r - (column << z)) as u32, z)
 }
 
-// The keys of a list's tiles, and whether all of the list are entries. Lists of one zoom are common, and quicker to read.
+// The keys of a list's tiles, and whether all of the list are entries; it stops at the first that is none.
 pub fn keys(list: &[u64], keys: &mut [u64], by: Key) -> bool
     requires { ⌜ length (now list) ≡ length (now keys) ⌝ }
     ensures { λ r. ⌜ Keyed by (now (list .entry)) (now (keys .exit)) r ⌝ }
 {
-    let n = keys_of_zoom(list, keys, by, first_zoom(list));
-    further_keys(list, keys, by, n)
-}
-
-// The zoom of a list's first entry, 0 if there is none.
-fn first_zoom(list: &[u64]) -> u8
-    ensures { λ z. ⌜ z ≤ maxZoom ⌝ }
-{
-    if list.len() == 0 {
-        return 0;
-    }
-    match ids::entry_tile(list[0]) {
-        TileAnswer::Found(t) => t.z,
-        TileAnswer::Refused(_) => 0,
-    }
-}
-
-// The keys of the first entries, as long as they are of zoom z, and how many these are.
-fn keys_of_zoom(list: &[u64], keys: &mut [u64], by: Key, z: u8) -> usize
-    requires { ⌜ (length (now list) ≡ length (now keys)) × (z ≤ maxZoom) ⌝ }
-    ensures { λ n. ⌜ KeyedTo by (now (list .entry)) (now (keys .entry)) n (now (keys .exit)) ⌝ }
-{
     let mut i = 0;
     while i < list.len() {
-        match ids::entry_of_zoom(list[i], z) {
-            TileAnswer::Found(t) => {
-                keys[i] = key_of(t, by);
+        match ids::entry_corner(list[i]) {
+            CornerAnswer::Found(c) => {
+                keys[i] = key_of(c, by);
             }
-            TileAnswer::Refused(_) => {
-                return i;
-            }
-        }
-        i += 1;
-    }
-    i
-}
-
-// The keys of the entries from the n-th on, and whether these are entries; it stops at the first that is none.
-fn further_keys(list: &[u64], keys: &mut [u64], by: Key, n: usize) -> bool
-    requires { ⌜ ((memory : List ℕ) × KeyedTo by (now list) memory n (now keys)) ⌝ }
-    ensures { λ r. ⌜ Keyed by (now (list .entry)) (now (keys .exit)) r ⌝ }
-{
-    let mut i = n;
-    while i < list.len() {
-        match ids::entry_tile(list[i]) {
-            TileAnswer::Found(t) => {
-                keys[i] = key_of(t, by);
-            }
-            TileAnswer::Refused(_) => {
+            CornerAnswer::Refused(_) => {
                 return false;
             }
         }

@@ -21,23 +21,21 @@ fn rank(t: Tile) -> u64
     (side + (t.x as u64)) * side + (t.y as u64)
 }
 
-// Whether the entries stand strictly in the order of tiles: as long as they do, they come by zooms.
+// Whether the entries stand strictly in the order of tiles.
 pub fn strictly_in_order(list: &[u64]) -> bool
     requires { ⌜ allOf isEntry (now list) ≡ true ⌝ }
     ensures { λ r. ⌜ r ≡ strictlyInOrder (now (list .entry)) ⌝ }
 {
     let mut last = 0;
-    let mut z = 0;
     let mut i = 0;
     while i < list.len() {
-        match ids::entry_tile_from(list[i], z) {
+        match ids::entry_tile(list[i]) {
             TileAnswer::Found(t) => {
                 let r = rank(t);
                 if r <= last {
                     return false;
                 }
                 last = r;
-                z = t.z;
             }
             TileAnswer::Refused(_) => {
                 return false;

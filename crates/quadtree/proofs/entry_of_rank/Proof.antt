@@ -1,17 +1,16 @@
 -- `quadtree::entry_of_rank` meets its contract: a rank taken apart is its tile.
 use mathlib.Core.Path.{_≡_, ap, sym, _∙_}
-use Prim.Native.Nat.{ℕ, _+_, _-_, _*_, _/_, _%_, _^_, _≤_, _<_}
+use Prim.Native.Nat.{ℕ, _+_, _-_, _*_, _/_, _%_, _^_, _≤_}
 use native.Mathlib.Omega.{arith}
-use borrow.Author.Needs.{needs}
 use Rattle.bits.specs.Powers.{pow-within, high-part-below, low-part}
 use Rattle.constants.specs.Limits.{maxZoom-small}
 use Rattle.ids.specs.Entry.{entryOf}
 use Rattle.tile.specs.OnMap.{OnMap, on-map-small}
 use Rattle.tile.specs.declared.Tile.{Tile}
-use Rattle.quadtree.specs.Lists.{tileEntry, by-tile}
+use Rattle.quadtree.specs.Lists.{tileEntry}
 use Rattle.quadtree.specs.Numbers.{rankTile}
 use Rattle.quadtree.specs.OneTile.{rank-tile}
-use Rattle.quadtree.specs.RankOrder.{rank-small, rank-taken}
+use Rattle.quadtree.specs.RankOrder.{rank-taken}
 use Rattle.quadtree.proofs.entry_of_rank.Statement.{statement}
 use Rattle.quadtree.proofs.entry_of_rank.Tie as tie
 

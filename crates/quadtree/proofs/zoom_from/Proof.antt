@@ -1,5 +1,5 @@
 -- `quadtree::zoom_from` meets its contract: a number whose bits above 2z are 1 is of zoom z.
-use mathlib.Core.Path.{_≡_, sym, _∙_}
+use mathlib.Core.Path.{_≡_, sym}
 use Prim.Native.Nat.{_*_, _/_, _^_}
 use native.Mathlib.Nat.{mod-lt}
 use native.Mathlib.Omega.{arith}
