@@ -35,10 +35,9 @@
 //! No call panics. Where it is proved that a call is never refused, its answer is no [`Result`],
 //! and an archive that did refuse it would not be the library's.
 //!
-//! The calls on lists keep what they sort on the stack of their thread: up to 1.6 MB for two lists
-//! of more than 4,096 tiles, 1.1 MB for the test whether such a list is settled, 0.6 MB to merge or
-//! settle it, 0.2 MB for a form line, and next to nothing else. The 2 MiB of a thread that Rust
-//! starts are enough for each of them.
+//! The calls on lists keep what they sort on the stack of their thread: up to 1.6 MB for lists of
+//! more than 4,096 tiles. Any other call needs 256 KB at most. The 2 MiB of a thread that Rust starts
+//! are enough for each of them.
 
 mod answer;
 #[allow(unsafe_code, reason = "declarations of the archive's functions")]
