@@ -3,7 +3,8 @@ use mathlib.Core.Path.{_≡_, refl, sym, ap, _∙_}
 use mathlib.Core.Bool.{Bool, true, false, cond}
 use Prim.Native.Nat.{ℕ, zero, suc, _+_, _-_, _*_, _/_, _%_, _^_, _≤_, _<_}
 use native.Mathlib.Decide.{decLe}
-use native.Mathlib.Nat.{lt-of-lt-of-le, pow-suc, mul-div-cancel, mod-lt, div-add-mod', div-lt-iff-lt-mul, mul-lt-mul-of-pos-right, mul-le-mul}
+use native.Mathlib.Nat.{lt-of-lt-of-le, pow-suc, mul-div-cancel, mod-lt, div-add-mod', div-lt-iff-lt-mul}
+use native.Mathlib.Nat.{mul-lt-mul-of-pos-right, mul-le-mul}
 use native.Mathlib.Numerals.{add-one}
 use native.Mathlib.Omega.{arith}
 use lib.Arith.{digits-lt, digits-div, digits-mod}
@@ -47,7 +48,8 @@ start-shifted z h =
     let k = 31 - z in
     let d : 62 - 2 * z ≡ 2 * k = omega arith in
     let s : z + k ≡ 31 = omega arith in
-    let p : 4 ^ 31 ≡ (3 * levelStart z + 1) * 4 ^ k = ap (λ (n : ℕ). 4 ^ n) (sym s) ∙ (pow-add 4 z k ∙ ap (λ (n : ℕ). n * 4 ^ k) (power-start z)) in
+    let p : 4 ^ 31 ≡ (3 * levelStart z + 1) * 4 ^ k =
+    ap (λ (n : ℕ). 4 ^ n) (sym s) ∙ (pow-add 4 z k ∙ ap (λ (n : ℕ). n * 4 ^ k) (power-start z)) in
     let e : levelStart 31 ≡ levelStart z * 4 ^ k + levelStart k = omega (arith, power-start 31, p, power-start k) in
     rw (d, four-side k, e) (digits-div (levelStart z) (omega (arith, power-start k)))
 
@@ -189,7 +191,8 @@ aligned o z h =
     (d ∙ (e ∙ ap (λ (n : ℕ). o / 2 ^ z * n + o % 2 ^ z * 2 ^ b) p), rw (← p) (mul-lt-mul-of-pos-right (offset-column o z) (pow-pos b)))
 
 -- and fits the deepest zoom, as its row does
-pub aligned-small : (o z : ℕ) → z ≤ maxZoom → o < 2 ^ z * 2 ^ z → (o * 2 ^ (maxZoom - z) < 2 ^ 60) × (o / 2 ^ z * 2 ^ (maxZoom - z) < 2 ^ maxZoom)
+pub aligned-small : (o z : ℕ) → z ≤ maxZoom → o < 2 ^ z * 2 ^ z
+    → (o * 2 ^ (maxZoom - z) < 2 ^ 60) × (o / 2 ^ z * 2 ^ (maxZoom - z) < 2 ^ maxZoom)
 aligned-small o z h l =
     let b = maxZoom - z in
     let s : z + b ≡ maxZoom = omega arith in

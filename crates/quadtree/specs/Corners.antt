@@ -35,7 +35,11 @@ module _ (t : Tile) (m : OfMap t) where
   pub corner-on-map : OnMap (cornerOf t .x) (cornerOf t .y) maxZoom
   corner-on-map =
       let b = pow-pos (maxZoom - t .z) in
-      record { zoom = omega arith; column = rw (← side) (mul-lt-mul-of-pos-right (m .column) b); row = rw (← side) (mul-lt-mul-of-pos-right (m .row) b) }
+      record {
+        zoom = omega arith;
+        column = rw (← side) (mul-lt-mul-of-pos-right (m .column) b);
+        row = rw (← side) (mul-lt-mul-of-pos-right (m .row) b);
+      }
 
   pub corner-location : 2 * mortonAt (cornerOf t .x) (cornerOf t .y) maxZoom + 4 ^ cornerOf t .below ≡ locationOf t
   unfolding locationOf
