@@ -8,9 +8,6 @@ use Rattle.constants.specs.Limits.{maxEntries}
 use Rattle.boundary.specs.declared.Rung.{Rung}
 use Rattle.boundary.specs.declared.Rung.the-variants.{Short, Medium, Long, Longer, Longest}
 
-abbrev pub fewRung : ℕ
-fewRung = 2
-
 abbrev pub tinyRung : ℕ
 tinyRung = 16
 

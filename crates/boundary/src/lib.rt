@@ -7,7 +7,7 @@ use work::FIRST_VALUE;
 use work::Work;
 ghost use mathlib.Core.Path.{_≡_};
 ghost use Prim.Native.Nat.{suc, _+_, _*_, _≤_};
-ghost use Rattle.boundary.specs.Rungs.{fewRung, tinyRung, shortRung, mediumRung, longRung, longerRung};
+ghost use Rattle.boundary.specs.Rungs.{tinyRung, shortRung, mediumRung, longRung, longerRung};
 ghost use Rattle.constants.specs.Limits.{maxEntries};
 ghost use Rattle.errors.specs.Answer.{numberOf};
 ghost use Rattle.errors.specs.Cases.{left};
@@ -15,8 +15,6 @@ ghost use Rattle.work.specs.Steps.{InScratch};
 ghost use Rattle.work.specs.Work.{workOf, toldLeft, OfLists};
 
 // The scratch has to be cleared, so it is not much longer than the lists. A rung of N takes two lists of N entries, or one of 2 * N.
-const FEW: usize = 2;
-
 const TINY: usize = 16;
 
 const SHORT: usize = 128;
@@ -57,9 +55,6 @@ pub fn run(a: &[u64], b: &[u64], work: Work, m: u8, out: &mut [u64]) -> usize
         return work::refused(Refusal::TooMany);
     }
     let need = need(work, a.len(), b.len());
-    if need <= FEW {
-        return few_scratch(a, b, work, m, out);
-    }
     if need <= TINY {
         return tiny_scratch(a, b, work, m, out);
     }
@@ -136,15 +131,6 @@ fn climb(a: &[u64], b: &[u64], work: Work, m: u8, out: &mut [u64], need: usize, 
         }
         Rung::Longest => longest_scratch(a, b, work, m, out),
     }
-}
-
-fn few_scratch(a: &[u64], b: &[u64], work: Work, m: u8, out: &mut [u64]) -> usize
-    requires { ⌜ InScratch (now a) (now b) (2 * fewRung) ⌝ }
-    ensures { λ r. ⌜ toldLeft r (now (out .exit)) ≡ workOf work m (now (a .entry)) (now (b .entry)) (now (out .entry)) ⌝ }
-{
-    let mut keys = [0u64; 2 * FEW];
-    let mut spare = [0u64; FEW];
-    work::work_in(a, b, work, m, out, &mut keys, &mut spare)
 }
 
 fn tiny_scratch(a: &[u64], b: &[u64], work: Work, m: u8, out: &mut [u64]) -> usize

@@ -89,23 +89,15 @@ pub fn rank_of_morton(q: u64) -> u64
     requires { ⌜ TileNumber mortonOf q ⌝ }
     ensures { λ r. ⌜ r ≡ rankOf (mortonTile q) ⌝ }
 {
-    rank_at(q, zoom_in(q))
+    (gather(q) << zoom_in(q)) + gather(q >> 1)
 }
 
-fn rank_at(q: u64, z: u8) -> u64
-    requires { ⌜ TileNumber mortonOf q × (z ≡ zoomIn q) ⌝ }
-    ensures { λ r. ⌜ r ≡ rankOf (mortonTile q) ⌝ }
-{
-    (gather(q) << z) + gather(q >> 1)
-}
-
-// The rank of the tile of a location, whose lowest set bit says its zoom.
+// The rank of the tile of a location.
 pub fn rank_of_location(p: u64) -> u64
     requires { ⌜ TileNumber locationOf p ⌝ }
     ensures { λ r. ⌜ r ≡ rankOf (locationTile p) ⌝ }
 {
-    let low = u64::trailing_zeros(p);
-    rank_at(p >> (low + 1), MAX_ZOOM - (low / 2) as u8)
+    rank_of_morton(p >> (u64::trailing_zeros(p) + 1))
 }
 
 // A Morton code stands above the lowest set bit of its location.

@@ -25,34 +25,25 @@ few : tie.Need-need-requires
 unfolding maxEntries
 few c κs = (omega (arith, c .before .if1 .left), omega (arith, c .if2 .left))
 
-few-fits : tie.Need-few-scratch-requires
+tiny-fits : tie.Need-tiny-scratch-requires
 unfolding maxEntries
-few-fits c κs =
+tiny-fits c κs =
     record {
       first-few = omega (arith, c .before .before .before .before .if1 .left);
       second-few = omega (arith, c .before .before .before .if2 .left);
       room = omega (arith, c .before .before .need .ensures .0, c .before .if3 .taken);
     }
 
-tiny-fits : tie.Need-tiny-scratch-requires
-unfolding maxEntries
-tiny-fits c κs =
-    record {
-      first-few = omega (arith, c .before .before .before .before .before .if1 .left);
-      second-few = omega (arith, c .before .before .before .before .if2 .left);
-      room = omega (arith, c .before .before .before .need .ensures .0, c .before .if4 .taken);
-    }
-
 climb-fits : tie.Need-climb-requires
 unfolding maxEntries
 climb-fits c κs =
     record {
-      first-few = omega (arith, c .before .before .before .before .before .if1 .left);
-      second-few = omega (arith, c .before .before .before .before .if2 .left);
-      room = c .before .before .before .need .ensures .0;
+      first-few = omega (arith, c .before .before .before .before .if1 .left);
+      second-few = omega (arith, c .before .before .before .if2 .left);
+      room = c .before .before .need .ensures .0;
     }
 
 pub run-spec : {M : Type 1} → statement M
 run-spec =
-    tie.close (tie.spec (λ c κs. search needs) first-too-long (λ c κs. search needs) second-too-long few few-fits (λ c. search needs)
-    (λ c. search needs) tiny-fits (λ c. search needs) (λ c. search needs) climb-fits (λ c. search needs) (λ c. search needs))
+    tie.close (tie.spec (λ c κs. search needs) first-too-long (λ c κs. search needs) second-too-long few tiny-fits (λ c. search needs)
+    (λ c. search needs) climb-fits (λ c. search needs) (λ c. search needs))
