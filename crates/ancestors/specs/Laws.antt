@@ -5,13 +5,15 @@ use mathlib.Core.Bool.{Bool, true}
 use mathlib.Core.List.{List}
 use Prim.Native.Nat.{ℕ, _+_, _-_, _/_, _^_, _≤_, _<_}
 use native.Mathlib.Decide.{decLe, decLt}
+use native.Mathlib.Nat.{pow-suc, div-lt-self}
+use native.Mathlib.Numerals.{add-one}
 use native.Mathlib.Omega.{arith}
 use lib.ListN.{take}
 use Rattle.constants.specs.Limits.{maxZoom}
 use Rattle.quadtree.specs.Lists.{TileNumbers}
 use Rattle.quadtree.specs.Numbers.{OfMap, mortonOf, locationOf, locationTile}
 use Rattle.quadtree.specs.OneTile.{morton-inj}
-use Rattle.quadtree.specs.Tree.{morton-ancestor}
+use Rattle.quadtree.specs.Tree.{four-pos, morton-ancestor}
 use Rattle.quadtree.specs.Locations.{holds-morton, valid-tile, map-tile}
 use Rattle.quadtree.specs.declared.Key.the-variants.{Location}
 use Rattle.settle.specs.Settle.{Settles}
@@ -40,6 +42,13 @@ pub record AncestorsTested (q g z steps : ℕ) : Type 0 where
 
 pub untested : {q g z : ℕ} → AncestorsTested q g z z
 untested = record { few = omega arith; none = λ n a b e. omega (arith, a, b) }
+
+-- a tile is not an ancestor of itself
+pub top-tested : {q g z : ℕ} → 0 < q → q ≡ g → AncestorsTested q g z 0
+top-tested {q} {g} {z} h e = record { few = omega arith; none = λ n a b f. omega (arith, e, f, smaller n) }
+  where
+    smaller : (n : ℕ) → q / 4 ^ (n + 1) < q
+    smaller n = div-lt-self h (rw (add-one n, pow-suc 4 n) (omega (arith, four-pos n)))
 
 pub tested-more : {q g z steps : ℕ} → AncestorsTested q g z steps → 0 < steps → (q / 4 ^ (steps - 1 + 1) ≡ g → ⊥)
     → AncestorsTested q g z (steps - 1)

@@ -11,6 +11,7 @@ ghost use Rattle.sort.specs.Sort.{By};
 ghost use Rattle.tile_list.specs.Finish.{Listed};
 ghost use Rattle.tile_list.specs.List.{named};
 ghost use Rattle.tile_set.specs.Set.{simplifiedV1};
+ghost use Rattle.ancestors.specs.Laws.{AncestorsTested};
 ghost use Rattle.ancestors.specs.Tops.{Tops, Ahead, FirstTop, Uncovers};
 
 // No zoom is above it, so settling at this minimum zoom joins nothing and leaves the topmost tiles.
@@ -52,7 +53,7 @@ fn uncovered(locations: &mut [u64], tops: &[u64], m: u8) -> usize
         top = top_of(tops, top, k);
         let highest = settle::morton(tops[top]);
         let morton = settle::morton(k);
-        let mut steps = settle::zoom(k);
+        let mut steps = steps_to_test(k, morton, highest);
         while steps > m {
             steps -= 1;
             if ancestor(morton, steps) == highest {
@@ -63,6 +64,17 @@ fn uncovered(locations: &mut [u64], tops: &[u64], m: u8) -> usize
         count += 1;
     }
     count
+}
+
+// How many of the ancestors of k's tile may be the top that holds it: none where it is that top.
+fn steps_to_test(k: u64, morton: u64, highest: u64) -> u8
+    requires { ⌜ IsLocation k × (0 < morton) ⌝ }
+    ensures { λ r. ⌜ AncestorsTested morton highest (locationTile k .z) r ⌝ }
+{
+    if morton == highest {
+        return 0;
+    }
+    settle::zoom(k)
 }
 
 // The first of the tops from `from` on whose run ends behind k.

@@ -133,12 +133,13 @@ fn climb(a: &[u64], b: &[u64], work: Work, m: u8, out: &mut [u64], need: usize, 
     }
 }
 
+// So few entries are sorted in place, and there is no spare memory to be cleared.
 fn tiny_scratch(a: &[u64], b: &[u64], work: Work, m: u8, out: &mut [u64]) -> usize
     requires { ⌜ InScratch (now a) (now b) (2 * tinyRung) ⌝ }
     ensures { λ r. ⌜ toldLeft r (now (out .exit)) ≡ workOf work m (now (a .entry)) (now (b .entry)) (now (out .entry)) ⌝ }
 {
     let mut keys = [0u64; 2 * TINY];
-    let mut spare = [0u64; TINY];
+    let mut spare = [0u64; 0];
     work::work_in(a, b, work, m, out, &mut keys, &mut spare)
 }
 

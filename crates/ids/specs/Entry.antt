@@ -3,17 +3,12 @@
 use mathlib.Core.Path.{_≡_}
 use mathlib.Core.Bool.{Bool}
 use mathlib.Core.List.{List, map}
-use Prim.Native.Nat.{ℕ, _-_, _*_, _^_}
+use Prim.Native.Nat.{ℕ}
 use lib.Dec.{eqb}
-use Rattle.constants.specs.Limits.{maxZoom}
 use Rattle.errors.specs.Answer.{Answer, answer}
-use Rattle.errors.specs.Cases.{refusedAs}
 use Rattle.tile.specs.OnMap.{OnMap, tileAt, noTile}
 use Rattle.tile.specs.declared.Tile.{Tile}
 use Rattle.ids.specs.Levels.{rmid-again, rmid-tile-again, rmid-accepted, accepted-rmid}
-use Rattle.ids.specs.declared.Corner.{Corner}
-use Rattle.ids.specs.declared.CornerAnswer.{CornerAnswer}
-use Rattle.ids.specs.declared.CornerAnswer.the-variants.{Found, Refused}
 use Rattle.ids.specs.Rmid.{rmid, rmidTile, rmidRefusal}
 
 unfoldable pub entryOf : ℕ → ℕ → ℕ → ℕ
@@ -34,20 +29,6 @@ isEntry n = eqb (entryRefusal n) 0
 
 abbrev pub entryTileOf : ℕ → Answer Tile
 entryTileOf n = answer (entryRefusal n) noTile (entryTile n)
-
--- a tile by the first of the deepest tiles inside it
-abbrev pub cornerOf : Tile → Corner
-cornerOf t = let b = maxZoom - t .z in record { x = t .x * 2 ^ b; y = t .y * 2 ^ b; below = b }
-
-abbrev pub noCorner : Corner
-noCorner = record { x = 0; y = 0; below = 0 }
-
-abbrev pub cornerCase : CornerAnswer → Answer Corner
-cornerCase (Found c) = record { number = 0; value = c }
-cornerCase (Refused why) = refusedAs why noCorner
-
-abbrev pub entryCornerOf : ℕ → Answer Corner
-entryCornerOf n = answer (entryRefusal n) noCorner (cornerOf (entryTile n))
 
 pub entry-accepted : (n : ℕ) → OnMap (entryTile n .x) (entryTile n .y) (entryTile n .z) → entryRefusal n ≡ 0
 unfolding entryTile entryRefusal

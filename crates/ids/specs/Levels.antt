@@ -4,7 +4,6 @@ use mathlib.Core.Bool.{Bool, true, false, cond}
 use Prim.Native.Nat.{ℕ, zero, suc, _+_, _-_, _*_, _/_, _%_, _^_, _≤_, _<_}
 use native.Mathlib.Decide.{decLe}
 use native.Mathlib.Nat.{lt-of-lt-of-le, pow-suc, mul-div-cancel, mod-lt, div-add-mod', div-lt-iff-lt-mul}
-use native.Mathlib.Nat.{mul-lt-mul-of-pos-right, mul-le-mul}
 use native.Mathlib.Numerals.{add-one}
 use native.Mathlib.Omega.{arith}
 use lib.Arith.{digits-lt, digits-div, digits-mod}
@@ -94,9 +93,13 @@ one-zoom n y z a b = pick (decLe y z) (decLe z y)
     pick (yes h) (no k) = absurd (omega (arith, start-mono (suc y) z (omega arith), a .below, b .from))
     pick (no h) k = absurd (omega (arith, start-mono (suc z) y (omega arith), b .below, a .from))
 
--- as the code finds it: of a number of zoom z, (3n + 1) / 2 has 2z or 2z + 1 binary digits
-pub zoom-by-digits : (n z : ℕ) → z ≤ 30 → InZoom n z → (64 - leadingZeros 64 ((3 * n + 1) / 2)) / 2 ≡ z
-zoom-by-digits n z h i = omega (arith, digits .1, from (decLe (2 * z) (digits .0)), below (decLe (digits .0) (2 * z + 1)))
+-- as the code finds it: of a number of zoom z, (3n + 1) / 2 has 2z or 2z + 1 binary digits, and the leading zeros are the rest of 64
+pub zoom-by-zeros : (n z : ℕ) → z ≤ 30 → InZoom n z
+    → (0 < leadingZeros 64 ((3 * n + 1) / 2)) × ((leadingZeros 64 ((3 * n + 1) / 2) - 1) / 2 + z ≡ 31)
+zoom-by-zeros n z h i =
+    let f = from (decLe (2 * z) (digits .0)) in
+    let b = below (decLe (digits .0) (2 * z + 1)) in
+    (omega (arith, digits .1, b), omega (arith, digits .1, f, b))
   where
     four : (w : ℕ) → 2 ^ (2 * w) ≡ 3 * levelStart w + 1
     four w = four-side w ∙ power-start w
@@ -178,27 +181,3 @@ accepted-rmid n e =
     let o = offsetOf n in
     let z = zoomOf n in
     record { zoom = h .1; column = offset-column o z; row = offset-row o z (offset-in-zoom n z (h .0)) }
-
--- a place shifted to the deepest zoom parts there into its row, and the column of its tile's corner
-pub aligned : (o z : ℕ) → z ≤ maxZoom
-    → (o * 2 ^ (maxZoom - z) ≡ o / 2 ^ z * 2 ^ maxZoom + o % 2 ^ z * 2 ^ (maxZoom - z)) × (o % 2 ^ z * 2 ^ (maxZoom - z) < 2 ^ maxZoom)
-aligned o z h =
-    let b = maxZoom - z in
-    let s : z + b ≡ maxZoom = omega arith in
-    let p : 2 ^ z * 2 ^ b ≡ 2 ^ maxZoom = sym (pow-add 2 z b) ∙ ap (λ (n : ℕ). 2 ^ n) s in
-    let d : o * 2 ^ b ≡ (o / 2 ^ z * 2 ^ z + o % 2 ^ z) * 2 ^ b = ap (λ (n : ℕ). n * 2 ^ b) (sym (div-add-mod' o (2 ^ z))) in
-    let e : (o / 2 ^ z * 2 ^ z + o % 2 ^ z) * 2 ^ b ≡ o / 2 ^ z * (2 ^ z * 2 ^ b) + o % 2 ^ z * 2 ^ b = omega arith in
-    (d ∙ (e ∙ ap (λ (n : ℕ). o / 2 ^ z * n + o % 2 ^ z * 2 ^ b) p), rw (← p) (mul-lt-mul-of-pos-right (offset-column o z) (pow-pos b)))
-
--- and fits the deepest zoom, as its row does
-pub aligned-small : (o z : ℕ) → z ≤ maxZoom → o < 2 ^ z * 2 ^ z
-    → (o * 2 ^ (maxZoom - z) < 2 ^ 60) × (o / 2 ^ z * 2 ^ (maxZoom - z) < 2 ^ maxZoom)
-aligned-small o z h l =
-    let b = maxZoom - z in
-    let s : z + b ≡ maxZoom = omega arith in
-    let p : 2 ^ z * 2 ^ b ≡ 2 ^ maxZoom = sym (pow-add 2 z b) ∙ ap (λ (n : ℕ). 2 ^ n) s in
-    let m : 2 ^ maxZoom ≤ 2 ^ 30 = pow-mono {j = 30} maxZoom-small in
-    let r : o / 2 ^ z * 2 ^ b < 2 ^ maxZoom = rw (← p) (mul-lt-mul-of-pos-right (offset-row o z l) (pow-pos b)) in
-    let q : o / 2 ^ z < 2 ^ maxZoom = lt-of-lt-of-le (offset-row o z l) (pow-mono h) in
-    let a = aligned o z h in
-    (rw (a .0) (lt-of-lt-of-le (digits-lt q (a .1)) (mul-le-mul m m)), r)

@@ -8,11 +8,10 @@ use tile::Tile;
 use tile::TileAnswer;
 ghost use mathlib.Core.Path.{_≡_};
 ghost use Prim.Native.Nat.{_*_, _/_, _%_, _^_, _<_, _≤_};
-ghost use lib.Dec.{leb};
 ghost use Rattle.constants.specs.Limits.{maxZoom};
 ghost use Rattle.errors.specs.Cases.{u64Case};
 ghost use Rattle.tile.specs.OnMap.{OnMap, tileAt, tileCase};
-ghost use Rattle.ids.specs.Entry.{entryOf, entryTileOf, cornerCase, entryCornerOf};
+ghost use Rattle.ids.specs.Entry.{entryOf, entryTileOf};
 ghost use Rattle.ids.specs.Id.{HasId, idOf, toIdOf, fromIdOf};
 ghost use Rattle.ids.specs.Rmid.{levelStart, rmid, rmidLimit, toRmidOf, zoomOf, offsetZoomCase, offsetZoomOf, fromRmidOf};
 
@@ -76,37 +75,6 @@ pub fn entry_tile(entry: u64) -> TileAnswer
     rmid2xyz(entry)
 }
 
-// A tile by the first of the deepest tiles inside it, and how many zooms these lie below it.
-pub struct Corner {
-    pub x: u32,
-    pub y: u32,
-    pub below: u8,
-}
-
-pub enum CornerAnswer {
-    Found(Corner),
-    Refused(Refusal),
-}
-
-// The corner of the tile that a number in a list stands for: it comes cheaper than the tile, since column and row part at one place
-// whatever the zoom.
-pub fn entry_corner(entry: u64) -> CornerAnswer
-    ensures { λ r. ⌜ cornerCase r ≡ entryCornerOf entry ⌝ }
-{
-    if past_limit(entry) {
-        return CornerAnswer::Refused(Refusal::NoTile);
-    }
-    let z = zoom_of(entry);
-    let below = MAX_ZOOM - z;
-    let aligned = (entry - level_start(z)) << below;
-    let row = aligned >> MAX_ZOOM;
-    CornerAnswer::Found(Corner {
-        x: (aligned - (row << MAX_ZOOM)) as u32,
-        y: (row << below) as u32,
-        below,
-    })
-}
-
 // A row-major number taken apart: the place within its zoom, and the zoom.
 pub struct OffsetZoom {
     pub offset: u64,
@@ -143,18 +111,11 @@ fn level_start(z: u8) -> u64
     (((1u64 << 62) - 1) / 3) >> (62 - 2 * z)
 }
 
-// Whether a number is too great to be a tile's.
-fn past_limit(i: u64) -> bool
-    ensures { λ r. ⌜ r ≡ leb rmidLimit i ⌝ }
-{
-    i >= level_start(MAX_ZOOM + 1)
-}
-
 // The zoom of a number of `xyz2rmid`, and its offset among the numbers of that zoom.
 pub fn int_2_offset_zoom(i: u64) -> OffsetZoomAnswer
     ensures { λ r. ⌜ offsetZoomCase r ≡ offsetZoomOf i ⌝ }
 {
-    if past_limit(i) {
+    if i >= level_start(MAX_ZOOM + 1) {
         return OffsetZoomAnswer::Refused(Refusal::NoTile);
     }
     let zoom = zoom_of(i);
@@ -165,23 +126,23 @@ pub fn int_2_offset_zoom(i: u64) -> OffsetZoomAnswer
 }
 
 // The deepest zoom whose tiles start at i or before it: of a number of zoom z, (3i + 1) / 2 has 2z or 2z + 1 binary digits. It is 0 for the
-// root, and that is as well: a count that the compiler knew to be of no 0 would wait for the register that it goes to.
+// root, and that is as well: a count that the compiler knew to be of no 0 would wait for the register that it goes to. Counted down from
+// 31, the zoom and what a level's start is shifted by come in fewer steps.
 fn zoom_of(i: u64) -> u8
     requires { ⌜ i < rmidLimit ⌝ }
     ensures { λ r. ⌜ r ≡ zoomOf i ⌝ }
 {
-    ((64 - u64::leading_zeros((3 * i + 1) / 2)) / 2) as u8
+    (31 - (u64::leading_zeros((3 * i + 1) / 2) - 1) / 2) as u8
 }
 
 // The tile of a number of `xyz2rmid`.
 pub fn rmid2xyz(i: u64) -> TileAnswer
     ensures { λ r. ⌜ tileCase r ≡ fromRmidOf i ⌝ }
 {
-    if past_limit(i) {
-        return TileAnswer::Refused(Refusal::NoTile);
+    match int_2_offset_zoom(i) {
+        OffsetZoomAnswer::Found(at) => TileAnswer::Found(tile_at(at.offset, at.zoom)),
+        OffsetZoomAnswer::Refused(why) => TileAnswer::Refused(why),
     }
-    let z = zoom_of(i);
-    TileAnswer::Found(tile_at(i - level_start(z), z))
 }
 
 // The tile at a place within its zoom: a row above z binary digits, and a column below them.

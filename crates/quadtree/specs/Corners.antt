@@ -1,53 +1,60 @@
--- The corner of a tile, which is the first of the deepest tiles inside it: its Morton code, and by it the tile's location.
+-- The corner of a tile, which is the first of the deepest tiles inside it: its Morton code is the tile's own with digits 0 behind it, and
+-- by it the code finds the tile's location.
 use mathlib.Core.Path.{_≡_, sym, ap, _∙_}
-use Prim.Native.Nat.{ℕ, zero, suc, _+_, _-_, _*_, _/_, _%_, _^_}
-use native.Mathlib.Nat.{pow-suc, mul-lt-mul-of-pos-right}
+use Prim.Native.Nat.{ℕ, zero, suc, _+_, _-_, _*_, _/_, _%_, _^_, _≤_, _<_}
+use native.Mathlib.Nat.{lt-of-lt-of-le, pow-suc, mul-lt-mul-of-pos-right}
 use native.Mathlib.Omega.{arith}
-use lib.Pow.{pow-add, pow-pos}
-use Rattle.constants.specs.Limits.{maxZoom}
-use Rattle.ids.specs.Entry.{cornerOf}
-use Rattle.tile.specs.OnMap.{OnMap}
+use lib.Pow.{pow-add, pow-mono, pow-pos}
+use Rattle.constants.specs.Limits.{maxZoom, maxZoom-small}
+use Rattle.ids.specs.Powers.{four-side}
 use Rattle.tile.specs.declared.Tile.{Tile}
-use Rattle.quadtree.specs.LowestBit.{location-zeros, location-morton}
-use Rattle.quadtree.specs.Numbers.{OfMap, mortonAt, mortonOf, locationOf}
+use Rattle.quadtree.specs.Digits.{apart, morton-apart}
+use Rattle.quadtree.specs.Numbers.{OfMap, mortonOf, locationOf}
 
--- b zooms down the code has b digits 0 more
-corner-morton : (x y z b : ℕ) → mortonAt (x * 2 ^ b) (y * 2 ^ b) (z + b) ≡ mortonAt x y z * 4 ^ b
-unfolding mortonAt
-corner-morton x y z zero =
-    let a : x * 1 ≡ x = omega arith in
-    let b : y * 1 ≡ y = omega arith in
-    let c : z + 0 ≡ z = omega arith in
-    rw (a, b, c) (omega arith)
-corner-morton x y z (suc b) =
-    let s : z + suc b ≡ suc (z + b) = omega arith in
-    let half : (n : ℕ) → (n * 2 ^ suc b / 2 ≡ n * 2 ^ b) × (n * 2 ^ suc b % 2 ≡ 0) = λ n.
-    let e : n * 2 ^ suc b ≡ n * 2 ^ b * 2 = rw (pow-suc 2 b) (omega arith) in (rw e (omega arith), rw e (omega arith)) in
-    rw (s, half x .0, half x .1, half y .0, half y .1, corner-morton x y z b, pow-suc 4 b) (omega arith)
+-- a column has no more bits than its zoom, and b zooms down b bits 0 more
+apart-enough : (k n : ℕ) → n < 2 ^ k → apart 1 (suc k) n ≡ apart 1 k n
+unfolding apart
+apart-enough zero n h = let e : n ≡ 0 = omega arith in rw e
+apart-enough (suc k) n h = let h : n < 2 ^ k * 2 = rw (pow-suc 2 k) at h in rw (apart-enough k (n / 2) (omega arith))
+
+apart-double : (k n : ℕ) → n < 2 ^ k → apart 1 (suc k) (2 * n) ≡ 4 * apart 1 (suc k) n
+unfolding apart
+apart-double k n h =
+    let a : 2 * n / 2 ≡ n = omega arith in
+    let b : 2 * n % 2 ≡ 0 = omega arith in
+    rw (a, b, apart-enough k n h) (omega arith)
+
+apart-shifted : (n z b : ℕ) → n < 2 ^ z → z + b ≤ 32 → apart 1 32 (n * 2 ^ b) ≡ apart 1 32 n * 4 ^ b
+apart-shifted n z zero h k = let e : n * 1 ≡ n = omega arith in rw e (omega arith)
+apart-shifted n z (suc b) h k =
+    let l : n * 2 ^ b < 2 ^ (z + b) = rw (pow-add 2 z b) (mul-lt-mul-of-pos-right h (pow-pos b)) in
+    let m : n * 2 ^ b < 2 ^ 31 = lt-of-lt-of-le l (pow-mono {j = 31} (omega arith)) in
+    let e : n * 2 ^ suc b ≡ 2 * (n * 2 ^ b) = rw (pow-suc 2 b) (omega arith) in
+    rw (e, apart-double 31 (n * 2 ^ b) m, apart-shifted n z b h (omega arith), pow-suc 4 b) (omega arith)
 
 module _ (t : Tile) (m : OfMap t) where
   sum : t .z + (maxZoom - t .z) ≡ maxZoom
   sum = omega (arith, m .zoom)
 
-  side : 2 ^ t .z * 2 ^ (maxZoom - t .z) ≡ 2 ^ maxZoom
-  side = sym (pow-add 2 (t .z) (maxZoom - t .z)) ∙ ap (λ (n : ℕ). 2 ^ n) sum
-
-  pub corner-on-map : OnMap (cornerOf t .x) (cornerOf t .y) maxZoom
-  corner-on-map =
-      let b = pow-pos (maxZoom - t .z) in
-      record {
-        zoom = omega arith;
-        column = rw (← side) (mul-lt-mul-of-pos-right (m .column) b);
-        row = rw (← side) (mul-lt-mul-of-pos-right (m .row) b);
-      }
-
-  pub corner-location : 2 * mortonAt (cornerOf t .x) (cornerOf t .y) maxZoom + 4 ^ cornerOf t .below ≡ locationOf t
-  unfolding locationOf
-  corner-location =
+  pub corner-column : t .x * 2 ^ (maxZoom - t .z) < 2 ^ maxZoom
+  corner-column =
       let b = maxZoom - t .z in
-      let e : mortonAt (t .x * 2 ^ b) (t .y * 2 ^ b) maxZoom ≡ mortonOf t * 4 ^ b =
-      ap (λ (z : ℕ). mortonAt (t .x * 2 ^ b) (t .y * 2 ^ b) z) (sym sum) ∙ corner-morton (t .x) (t .y) (t .z) b in
-      rw e (omega arith)
+      let side : 2 ^ t .z * 2 ^ b ≡ 2 ^ maxZoom = sym (pow-add 2 (t .z) b) ∙ ap (λ (n : ℕ). 2 ^ n) sum in
+      rw (← side) (mul-lt-mul-of-pos-right (m .column) (pow-pos b))
 
-  pub morton-above : locationOf t / 2 ^ (2 * cornerOf t .below + 1) ≡ mortonOf t
-  morton-above = rw (location-zeros t) at (location-morton t)
+  corner-digits : apart 1 32 (t .x * 2 ^ (maxZoom - t .z)) + apart 1 32 (t .y) * 2 ^ (2 * (maxZoom - t .z) + 1) + 4 ^ maxZoom
+      ≡ mortonOf t * 4 ^ (maxZoom - t .z)
+  corner-digits =
+      let b = maxZoom - t .z in
+      let few : t .z + b ≤ 32 = omega (arith, sum, maxZoom-small) in
+      let c = apart-shifted (t .x) (t .z) b (m .column) few in
+      let d : 2 ^ (2 * b + 1) ≡ 4 ^ b * 2 = rw (pow-add 2 (2 * b) 1, four-side b) in
+      let p : 4 ^ maxZoom ≡ 4 ^ t .z * 4 ^ b = ap (λ (n : ℕ). 4 ^ n) (sym sum) ∙ pow-add 4 (t .z) b in
+      let e = morton-apart (t .x) (t .y) (t .z) 32 (m .column) (m .row) (omega (arith, few)) in
+      rw (c, d, p, e) (omega arith)
+
+  -- as the code computes it
+  pub corner-location : 2 * (apart 1 32 (t .x * 2 ^ (maxZoom - t .z)) + apart 1 32 (t .y) * 2 ^ (2 * (maxZoom - t .z) + 1) + 4 ^ maxZoom)
+      + 4 ^ (maxZoom - t .z) ≡ locationOf t
+  unfolding locationOf
+  corner-location = rw corner-digits (omega arith)

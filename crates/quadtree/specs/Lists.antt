@@ -12,8 +12,7 @@ use lib.Seq.{take-all, length-take-le, getD-drop, getD-append-add}
 use borrow.Author.Tests.{eqb-true}
 use Rattle.bits.specs.Tests.{not-true, not-false, allOf, all-in, getD-in}
 use Rattle.errors.specs.Memory.{front, front-length, front-more}
-use Rattle.ids.specs.Entry.{entryOf, entryTile, isEntry, accepted-entry, cornerOf}
-use Rattle.ids.specs.declared.Corner.{Corner}
+use Rattle.ids.specs.Entry.{entryOf, entryTile, isEntry, accepted-entry}
 use Rattle.tile.specs.declared.Tile.{Tile}
 use Rattle.quadtree.specs.OneTile.{morton-tile, location-tile}
 use Rattle.quadtree.specs.declared.Key.{Key}
@@ -53,15 +52,6 @@ by-tile P k each = subst P (k .number) (each (k .tile) (k .on-map))
 
 abbrev pub TileNumbers : (Tile → ℕ) → List ℕ → Type 0
 TileNumbers f l = (n : ℕ) → List·Memᴰ n l → TileNumber f n
-
--- c is the corner of a tile of the map; k is the key of whatever tile that is
-pub record TileCorner (c : Corner) : Type 0 where
-  pub tile : Tile
-  pub on-map : OfMap tile
-  pub corner : c ≡ cornerOf tile
-
-abbrev pub KeyAt : Key → Corner → ℕ → Type 0
-KeyAt by c k = (t : Tile) → OfMap t → c ≡ cornerOf t → k ≡ sortKey by t
 
 -- what `keys` answers of a list, and leaves where all of it are entries
 pub record Keyed (by : Key) (list left : List ℕ) (fine : Bool) : Type 0 where

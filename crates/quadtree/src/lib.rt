@@ -1,18 +1,15 @@
 // Numbers of tiles by which lists are sorted, and whole lists turned from one number to the next.
 use constants::MAX_ZOOM;
-use ids::Corner;
-use ids::CornerAnswer;
 use tile::Tile;
+use tile::TileAnswer;
 ghost use mathlib.Core.Path.{_≡_};
 ghost use mathlib.Core.List.{map};
-ghost use Prim.Native.Nat.{_+_, _*_, _^_, _<_, _≤_};
+ghost use Prim.Native.Nat.{_<_};
 ghost use lib.ListN.{length};
-ghost use Rattle.constants.specs.Limits.{maxZoom};
-ghost use Rattle.tile.specs.OnMap.{OnMap};
 ghost use Rattle.quadtree.specs.Digits.{apart};
-ghost use Rattle.quadtree.specs.Lists.{sortKey, keyRank, rankEntry, TileNumber, TileNumbers, TileCorner, KeyAt, Keyed};
+ghost use Rattle.quadtree.specs.Lists.{sortKey, keyRank, rankEntry, TileNumber, TileNumbers, Keyed};
 ghost use Rattle.quadtree.specs.Locations.{IsLocation, lowOf};
-ghost use Rattle.quadtree.specs.Numbers.{OfMap, mortonAt, mortonOf, locationOf, rankOf, zoomIn, evenBits, mortonTile, locationTile};
+ghost use Rattle.quadtree.specs.Numbers.{OfMap, mortonOf, locationOf, rankOf, zoomIn, evenBits, mortonTile, locationTile};
 
 // The number of a tile that a list is sorted by.
 pub enum Key {
@@ -44,27 +41,6 @@ fn gather(n: u64) -> u64
     (v | (v >> 16)) & 0x0000_0000_ffff_ffff
 }
 
-// A tile's Morton code, behind a leading 1.
-pub fn morton(t: Tile) -> u64
-    requires { ⌜ OfMap t ⌝ }
-    ensures { λ r. ⌜ r ≡ mortonOf t ⌝ }
-{
-    bits::wide_pow2(2 * t.z) + spread(t.x) + 2 * spread(t.y)
-}
-
-// A tile's locational code, by its corner: the Morton code of the corner, and half of the tile's run.
-fn location(c: Corner) -> u64
-    requires { ⌜ OnMap (c .x) (c .y) maxZoom × (c .below ≤ maxZoom) ⌝ }
-    ensures { λ r. ⌜ r ≡ 2 * mortonAt (c .x) (c .y) maxZoom + 4 ^ c .below ⌝ }
-{
-    let first = Tile {
-        x: c.x,
-        y: c.y,
-        z: MAX_ZOOM,
-    };
-    2 * morton(first) + (1u64 << (2 * c.below))
-}
-
 // The zoom of a Morton code or a rank.
 fn zoom_in(n: u64) -> u8
     requires { ⌜ 0 < n ⌝ }
@@ -89,26 +65,39 @@ pub fn rank_of_morton(q: u64) -> u64
     requires { ⌜ TileNumber mortonOf q ⌝ }
     ensures { λ r. ⌜ r ≡ rankOf (mortonTile q) ⌝ }
 {
-    (gather(q) << zoom_in(q)) + gather(q >> 1)
+    rank_at(q, zoom_in(q))
 }
 
-// The rank of the tile of a location.
+// The same, where the zoom is known.
+fn rank_at(q: u64, z: u8) -> u64
+    requires { ⌜ TileNumber mortonOf q × (z ≡ zoomIn q) ⌝ }
+    ensures { λ r. ⌜ r ≡ rankOf (mortonTile q) ⌝ }
+{
+    (gather(q) << z) + gather(q >> 1)
+}
+
+// The rank of the tile of a location, whose lowest set bit says its zoom.
 pub fn rank_of_location(p: u64) -> u64
     requires { ⌜ TileNumber locationOf p ⌝ }
     ensures { λ r. ⌜ r ≡ rankOf (locationTile p) ⌝ }
 {
-    rank_of_morton(p >> (u64::trailing_zeros(p) + 1))
+    let low = u64::trailing_zeros(p);
+    rank_at(p >> (low + 1), MAX_ZOOM - (low / 2) as u8)
 }
 
-// A Morton code stands above the lowest set bit of its location.
-fn key_of(c: Corner, by: Key) -> u64
-    requires { ⌜ TileCorner c ⌝ }
-    ensures { λ r. ⌜ KeyAt by c r ⌝ }
+// The location of a tile is the Morton code of the first of the deepest tiles inside it, and half of the tile's run; the tile's own code
+// stands above its lowest set bit. The column moves up to the deepest zoom before its bits are spread, the row after: then both are spread
+// by the same steps, which the compiler takes at once.
+fn key_of(t: Tile, by: Key) -> u64
+    requires { ⌜ OfMap t ⌝ }
+    ensures { λ r. ⌜ r ≡ sortKey by t ⌝ }
 {
-    let p = location(c);
+    let below = MAX_ZOOM - t.z;
+    let digits = spread(t.x << below) + (spread(t.y) << (2 * below + 1));
+    let p = 2 * (digits + (1u64 << (2 * MAX_ZOOM))) + (1u64 << (2 * below));
     match by {
         Key::Location => p,
-        Key::Morton => p >> (2 * c.below + 1),
+        Key::Morton => p >> (2 * below + 1),
     }
 }
 
@@ -137,11 +126,11 @@ pub fn keys(list: &[u64], keys: &mut [u64], by: Key) -> bool
 {
     let mut i = 0;
     while i < list.len() {
-        match ids::entry_corner(list[i]) {
-            CornerAnswer::Found(c) => {
-                keys[i] = key_of(c, by);
+        match ids::entry_tile(list[i]) {
+            TileAnswer::Found(t) => {
+                keys[i] = key_of(t, by);
             }
-            CornerAnswer::Refused(_) => {
+            TileAnswer::Refused(_) => {
                 return false;
             }
         }

@@ -1,18 +1,20 @@
 -- `uncovered`: the outer loop is the walk, and the inner one tests the ancestors of one tile, from the root on.
-use mathlib.Core.Path.{sym, _∙_}
+use mathlib.Core.Path.{refl, sym, _∙_}
 use Prim.Native.Nat.{_+_, _-_, _<_}
 use native.Mathlib.Omega.{arith}
 use borrow.Author.Needs.{needs}
 use lib.ListN.{length, getD}
 use Rattle.constants.specs.Limits.{maxZoom-small}
 use Rattle.quadtree.specs.Locations.{IsLocation}
-use Rattle.ancestors.specs.Laws.{AncestorsTested, untested, tested-more}
+use Rattle.quadtree.specs.Numbers.{locationTile}
+use Rattle.quadtree.specs.Tree.{morton-small}
+use Rattle.ancestors.specs.Laws.{AncestorsTested, tested-more}
 use Rattle.ancestors.specs.Walk.{Walk, walk-begun, top-location, next-location, next-ahead, skipped, kept, ended}
 use Rattle.ancestors.proofs.uncovered.Statement.{statement}
 use Rattle.ancestors.proofs.uncovered.Tie as tie
 
 abbrev Inv-loop : tie.InvT-loop
-Inv-loop locations tops m count top i k highest morton steps₀ steps = AncestorsTested morton highest steps₀ steps
+Inv-loop locations tops m count top i k highest morton steps₀ steps = AncestorsTested morton highest (locationTile k .z) steps
 
 abbrev μ-loop : tie.MeasureT-loop
 μ-loop locations tops m count top i k highest morton steps₀ steps = steps
@@ -28,7 +30,7 @@ abbrev Read : Type 0
 Read = tie.After-slice-known2 Inv-loop μ-loop Inv-tiles μ-tiles
 
 abbrev Begun : Type 0
-Begun = tie.After-zoom Inv-loop μ-loop Inv-tiles μ-tiles
+Begun = tie.After-steps-to-test Inv-loop μ-loop Inv-tiles μ-tiles
 
 abbrev read : Begun → Read
 read c = c .before .before .before .before .before
@@ -81,11 +83,13 @@ morton-requires c κs = top-location (c .before .before .before .before .before 
 morton-requires-2 : tie.Need-morton-requires-2 Inv-loop μ-loop Inv-tiles μ-tiles
 morton-requires-2 c κs = location (c .before .before .before)
 
-zoom-requires : tie.Need-zoom-requires Inv-loop μ-loop Inv-tiles μ-tiles
-zoom-requires c κs = location (c .before .before .before .before)
+steps-to-test-requires : tie.Need-steps-to-test-requires Inv-loop μ-loop Inv-tiles μ-tiles
+steps-to-test-requires c κs =
+    let l = location (c .before .before .before .before) in
+    (l, rw (c .morton2 .ensures) (morton-small _ (l .of-map) .0))
 
 loop-holds : tie.Need-loop-holds Inv-loop μ-loop Inv-tiles μ-tiles
-loop-holds c = untested
+loop-holds c = c .steps-to-test .ensures
 
 sub-steps : tie.Need-sub-steps Inv-loop μ-loop Inv-tiles μ-tiles
 sub-steps c = search needs
@@ -93,7 +97,7 @@ sub-steps c = search needs
 ancestor-requires : tie.Need-ancestor-requires Inv-loop μ-loop Inv-tiles μ-tiles
 ancestor-requires c κs =
     let b = c .before .before in
-    omega (arith, c .before .loop .inv .few, b .zoom .ensures, location (read b) .of-map .zoom, maxZoom-small)
+    omega (arith, c .before .loop .inv .few, location (read b) .of-map .zoom, maxZoom-small)
 
 tiles-less : tie.Need-tiles-less Inv-loop μ-loop Inv-tiles μ-tiles
 tiles-less c = falls (read (c .before .before .before .before))
@@ -105,7 +109,7 @@ tiles-again c =
     let I = c .before .before .before .loop in
     let deeper = c .before .before .loop-test .taken in
     skipped (s .0 .0) (s .0 .1) (s .1) (walk (read b) .tiles .inv) (more (read b)) (b .before .before .before .before .top-of .ensures)
-    (b .before .morton2 .ensures) (b .before .before .morton .ensures) (b .zoom .ensures)
+    (b .before .morton2 .ensures) (b .before .before .morton .ensures) refl
     (I .steps - 1) (omega (arith, deeper)) (omega (arith, deeper, I .inv .few)) (sym (c .before .ancestor .ensures) ∙ c .if1 .taken)
 
 loop-less : tie.Need-loop-less Inv-loop μ-loop Inv-tiles μ-tiles
@@ -133,7 +137,7 @@ tiles-again-2 c =
     let s = start (read b) .pre in
     let I = c .before .loop in
     kept (s .0 .0) (s .0 .1) (s .1) (walk (read b) .tiles .inv) (more (read b)) (b .before .before .before .before .top-of .ensures)
-    (b .before .morton2 .ensures) (b .before .before .morton .ensures) (b .zoom .ensures) (I .steps) (c .loop-test .left) (I .inv)
+    (b .before .morton2 .ensures) (b .before .before .morton .ensures) refl (I .steps) (c .loop-test .left) (I .inv)
 
 same-length : tie.Need-same-length Inv-loop μ-loop Inv-tiles μ-tiles
 same-length c = c .before .tiles .inv .long
@@ -158,7 +162,7 @@ uncovered-spec =
     shared-slice-read-morton
     morton-requires
     morton-requires-2
-    zoom-requires
+    steps-to-test-requires
     loop-holds
     sub-steps
     ancestor-requires

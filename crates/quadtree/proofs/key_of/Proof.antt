@@ -1,23 +1,118 @@
--- `quadtree::key_of` meets its contract: the location, or the Morton code above its lowest set bit.
-use mathlib.Core.Path.{_≡_, ap, _∙_}
-use Prim.Native.Nat.{ℕ, _+_, _*_, _/_, _^_, _≤_}
+-- `quadtree::key_of` meets its contract: no shift loses a bit, and the Morton code stands above the location's lowest set bit.
+use mathlib.Core.Path.{_≡_}
+use Prim.Native.Nat.{ℕ, _+_, _-_, _*_, _/_, _%_, _^_, _<_}
+use native.Mathlib.Nat.{mod-eq-of-lt}
 use native.Mathlib.Omega.{arith}
+use lib.Pow.{pow-mono}
 use borrow.Author.Needs.{needs}
 use Rattle.constants.specs.Limits.{maxZoom, maxZoom-small}
-use Rattle.ids.specs.Entry.{cornerOf}
-use Rattle.ids.specs.declared.Corner.{Corner}
+use Rattle.ids.specs.Powers.{four-side}
 use Rattle.tile.specs.declared.Tile.{Tile}
-use Rattle.quadtree.specs.Corners.{corner-on-map, corner-location, morton-above}
-use Rattle.quadtree.specs.Lists.{TileCorner}
-use Rattle.quadtree.specs.Numbers.{OfMap, mortonAt, locationOf, mortonOf}
+use Rattle.quadtree.specs.Corners.{corner-column, corner-location}
+use Rattle.quadtree.specs.Digits.{apart}
+use Rattle.quadtree.specs.LowestBit.{location-small, location-zeros, location-morton}
+use Rattle.quadtree.specs.Numbers.{OfMap, mortonOf, locationOf}
 use Rattle.quadtree.proofs.key_of.Statement.{statement}
 use Rattle.quadtree.proofs.key_of.Tie as tie
 
-shallow : {c : Corner} → TileCorner c → c .below ≤ maxZoom
-shallow k = rw (k .corner) (omega arith)
+-- the numbers that the code computes of a tile
+module _ (t : Tile) (m : OfMap t) where
+  column : t .x * 2 ^ (maxZoom - t .z) % 2 ^ 32 ≡ t .x * 2 ^ (maxZoom - t .z)
+  column = mod-eq-of-lt (omega (arith, corner-column t m, pow-mono {j = 30} maxZoom-small))
 
-location-requires : tie.Need-location-requires
-location-requires c κs = let k = c .pre in (rw (k .corner) (corner-on-map (k .tile) (k .on-map)), shallow k)
+  row : apart 1 32 (t .y) * 2 ^ (2 * (maxZoom - t .z) + 1) % 2 ^ 64 ≡ apart 1 32 (t .y) * 2 ^ (2 * (maxZoom - t .z) + 1)
+  row = mod-eq-of-lt (omega (arith, corner-location t m, location-small t m))
+
+  one : 1 * 2 ^ (2 * maxZoom) % 2 ^ 64 ≡ 4 ^ maxZoom
+  one = let e : 1 * 2 ^ (2 * maxZoom) ≡ 4 ^ maxZoom = omega (arith, four-side maxZoom) in
+      rw e (mod-eq-of-lt (omega (arith, corner-location t m, location-small t m)))
+
+  half : 1 * 2 ^ (2 * (maxZoom - t .z)) % 2 ^ 64 ≡ 4 ^ (maxZoom - t .z)
+  half = let e : 1 * 2 ^ (2 * (maxZoom - t .z)) ≡ 4 ^ (maxZoom - t .z) = omega (arith, four-side (maxZoom - t .z)) in
+      rw e (mod-eq-of-lt (omega (arith, corner-location t m, location-small t m)))
+
+  located : {r s : ℕ} → r ≡ apart 1 32 (t .x * 2 ^ (maxZoom - t .z) % 2 ^ 32) → s ≡ apart 1 32 (t .y)
+      → 2 * (r + s * 2 ^ (2 * (maxZoom - t .z) + 1) % 2 ^ 64 + 1 * 2 ^ (2 * maxZoom) % 2 ^ 64) + 1 * 2 ^ (2 * (maxZoom - t .z)) % 2 ^ 64 ≡ locationOf t
+  located e f = rw (e, f, column, row, one, half) (corner-location t m)
+
+  above : {p : ℕ} → p ≡ locationOf t → p / 2 ^ (2 * (maxZoom - t .z) + 1) ≡ mortonOf t
+  above e = rw (e, ← location-zeros t) (location-morton t)
+
+sub-below : tie.Need-sub-below
+unfolding maxZoom
+sub-below c = c .before .pre .zoom
+
+cast-spread : tie.Need-cast-spread
+cast-spread c = search needs
+
+shl-spread : tie.Need-shl-spread
+shl-spread c = search needs
+
+spread-requires : tie.Need-spread-requires
+spread-requires c κs = search needs
+
+spread-requires-2 : tie.Need-spread-requires-2
+spread-requires-2 c κs = search needs
+
+abbrev start : tie.After-spread2 → tie.Start
+start c = c .before .before .before .before
+
+-- what is added up is the location, and fits
+whole : (c : tie.After-spread2)
+    → let t = start c .args .t in
+    2 * (c .before .spread .result + c .spread2 .result * 2 ^ (2 * (maxZoom - t .z) + 1) % 2 ^ 64 + 1 * 2 ^ (2 * maxZoom) % 2 ^ 64)
+    + 1 * 2 ^ (2 * (maxZoom - t .z)) % 2 ^ 64 ≡ locationOf t
+unfolding maxZoom
+whole c = located (start c .args .t) (start c .pre) (c .before .spread .ensures) (c .spread2 .ensures)
+
+fits : (c : tie.After-spread2) → locationOf (start c .args .t) < 2 ^ 62
+fits c = location-small (start c .args .t) (start c .pre)
+
+mul-digits : tie.Need-mul-digits
+mul-digits c = search needs
+
+add-digits : tie.Need-add-digits
+add-digits c = search needs
+
+cast-digits : tie.Need-cast-digits
+cast-digits c = search needs
+
+shl-digits : tie.Need-shl-digits
+shl-digits c = search needs
+
+add-digits-2 : tie.Need-add-digits-2
+unfolding maxZoom
+add-digits-2 c = omega (arith, whole c, fits c)
+
+mul-p : tie.Need-mul-p
+mul-p c = search needs
+
+cast-p : tie.Need-cast-p
+cast-p c = search needs
+
+shl-p : tie.Need-shl-p
+shl-p c = search needs
+
+add-p : tie.Need-add-p
+unfolding maxZoom
+add-p c = omega (arith, whole c, fits c)
+
+mul-p-2 : tie.Need-mul-p-2
+unfolding maxZoom
+mul-p-2 c = omega (arith, whole c, fits c)
+
+mul-p-3 : tie.Need-mul-p-3
+mul-p-3 c = search needs
+
+cast-p-2 : tie.Need-cast-p-2
+cast-p-2 c = search needs
+
+shl-p-2 : tie.Need-shl-p-2
+shl-p-2 c = search needs
+
+add-p-2 : tie.Need-add-p-2
+unfolding maxZoom
+add-p-2 c = omega (arith, whole c, fits c)
 
 enum-told : tie.Need-enum-told
 enum-told c = search needs
@@ -25,38 +120,51 @@ enum-told c = search needs
 enum-told-2 : tie.Need-enum-told-2
 enum-told-2 c = search needs
 
--- what the location is, of whatever tile has the corner
-located : {c : Corner} {p : ℕ} → p ≡ 2 * mortonAt (c .x) (c .y) maxZoom + 4 ^ c .below → (t : Tile) → OfMap t → c ≡ cornerOf t → p ≡ locationOf t
-located e t m f = (e ∙ ap (λ (c : Corner). 2 * mortonAt (c .x) (c .y) maxZoom + 4 ^ c .below) f) ∙ corner-location t m
-
-above : {c : Corner} {p : ℕ} → p ≡ 2 * mortonAt (c .x) (c .y) maxZoom + 4 ^ c .below → (t : Tile) → OfMap t → c ≡ cornerOf t
-    → p / 2 ^ (2 * c .below + 1) ≡ mortonOf t
-above {c} {p} e t m f =
-    ap (λ (n : ℕ). n / 2 ^ (2 * c .below + 1)) (located e t m f) ∙ (ap (λ (d : Corner). locationOf t / 2 ^ (2 * d .below + 1)) f ∙ morton-above t m)
-
 mul-result : tie.Need-mul-result
-mul-result c = omega (arith, shallow (c .before .before .before .before .pre), maxZoom-small)
+mul-result c = search needs
 
 add-result : tie.Need-add-result
-add-result c = omega (arith, shallow (c .before .before .before .before .pre), maxZoom-small)
+add-result c = search needs
 
 cast-result : tie.Need-cast-result
 cast-result c = search needs
 
 shr-result : tie.Need-shr-result
-shr-result c = omega (arith, shallow (c .before .before .before .before .pre), maxZoom-small)
+shr-result c = search needs
 
 returns : tie.Need-returns
-returns c = λ t m f. rw (c .enum-told .given .1) (located (c .before .before .location .ensures) t m f)
+unfolding maxZoom
+returns c = rw (c .enum-told .given .1) (whole (c .before .before))
 
 returns-2 : tie.Need-returns-2
-returns-2 c = λ t m f. rw (c .before .enum-told2 .given .1) (above (c .before .before .before .location .ensures) t m f)
+unfolding maxZoom
+returns-2 c =
+    let s = c .before .before in
+    rw (c .enum-told2 .given .1) (above (start s .args .t) (start s .pre) (whole s))
 
 pub key-of-spec : {M : Type 1} → statement M
 key-of-spec =
     tie.close
     (tie.spec
-    location-requires
+    sub-below
+    cast-spread
+    shl-spread
+    spread-requires
+    spread-requires-2
+    mul-digits
+    add-digits
+    cast-digits
+    shl-digits
+    add-digits-2
+    mul-p
+    cast-p
+    shl-p
+    add-p
+    mul-p-2
+    mul-p-3
+    cast-p-2
+    shl-p-2
+    add-p-2
     enum-told
     enum-told-2
     mul-result

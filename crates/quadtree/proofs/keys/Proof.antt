@@ -8,8 +8,9 @@ use borrow.Author.Needs.{needs}
 use borrow.Author.Tests.{eq-eqb, ne-eqb}
 use Rattle.bits.specs.Tests.{allOf, all-here, all-bad, all-past}
 use Rattle.errors.specs.Laws.{answer-found, answer-refused, never-zero}
-use Rattle.ids.specs.Entry.{entryTile, entryRefusal, isEntry, accepted-entry, cornerOf, noCorner, cornerCase}
-use Rattle.quadtree.specs.Lists.{entryKey, Mapped, mapped-length, mapped-next, mapped-all}
+use Rattle.ids.specs.Entry.{entryTile, entryRefusal, isEntry, accepted-entry}
+use Rattle.tile.specs.OnMap.{tileCase, noTile}
+use Rattle.quadtree.specs.Lists.{sortKey, entryKey, Mapped, mapped-length, mapped-next, mapped-all}
 use Rattle.quadtree.proofs.keys.Statement.{statement}
 use Rattle.quadtree.proofs.keys.Tie as tie
 
@@ -22,32 +23,28 @@ abbrev μ-loop : tie.MeasureT-loop
 loop-holds : tie.Need-loop-holds Inv-loop μ-loop
 loop-holds c = (refl, record { same = c .before .before .pre; within = omega arith; written = refl })
 
-mul-entry-corner : tie.Need-mul-entry-corner Inv-loop μ-loop
-mul-entry-corner c = search needs
+mul-entry-tile : tie.Need-mul-entry-tile Inv-loop μ-loop
+mul-entry-tile c = search needs
 
-shared-slice-read-entry-corner : tie.Need-shared-slice-read-entry-corner Inv-loop μ-loop
-shared-slice-read-entry-corner c = search needs
+shared-slice-read-entry-tile : tie.Need-shared-slice-read-entry-tile Inv-loop μ-loop
+shared-slice-read-entry-tile c = search needs
 
-entry-corner-requires : tie.Need-entry-corner-requires Inv-loop μ-loop
-entry-corner-requires c κs = search needs
+entry-tile-requires : tie.Need-entry-tile-requires Inv-loop μ-loop
+entry-tile-requires c κs = search needs
 
-enum-known-c : tie.Need-enum-known-c Inv-loop μ-loop
-enum-known-c c = search needs
+enum-known-t : tie.Need-enum-known-t Inv-loop μ-loop
+enum-known-t c = search needs
 
-abbrev entry : tie.After-entry-corner Inv-loop μ-loop → ℕ
+abbrev entry : tie.After-entry-tile Inv-loop μ-loop → ℕ
 entry c = getD (c .before .before .before .before .before .before .args .list .now) (c .before .before .before .loop .i) 0
 
-found : (c : tie.After-c Inv-loop μ-loop)
-    → (entryRefusal (entry (c .before .before)) ≡ 0) × (c .c .given .0 .0 ≡ cornerOf (entryTile (entry (c .before .before))))
+found : (c : tie.After-t Inv-loop μ-loop) → (entryRefusal (entry (c .before .before)) ≡ 0) × (c .t .given .0 .0 ≡ entryTile (entry (c .before .before)))
 found c =
     let e = c .before .before in
-    answer-found (entryRefusal (entry e)) noCorner (cornerOf (entryTile (entry e))) _ (sym (ap cornerCase (c .c .given .1)) ∙ e .entry-corner .ensures)
+    answer-found (entryRefusal (entry e)) noTile (entryTile (entry e)) _ (sym (ap tileCase (c .t .given .1)) ∙ e .entry-tile .ensures)
 
 key-of-requires : tie.Need-key-of-requires Inv-loop μ-loop
-key-of-requires c κs =
-    let f = found (c .before) in
-    let n = entry (c .before .before .before) in
-    record { tile = entryTile n; on-map = accepted-entry n (f .0); corner = f .1 }
+key-of-requires c κs = let f = found (c .before) in rw (f .1) (accepted-entry (entry (c .before .before .before)) (f .0))
 
 mul-keys : tie.Need-mul-keys Inv-loop μ-loop
 mul-keys c = search needs
@@ -68,8 +65,7 @@ stranger : (c : tie.After-enum-told Inv-loop μ-loop) → isEntry (entry (c .bef
 stranger c =
     let e = c .before .before in
     let why = c .enum-told .given .0 .0 in
-    let n = entry e in
-    let f = answer-refused why (entryRefusal n) noCorner (cornerOf (entryTile n)) (sym (ap cornerCase (c .enum-told .given .1)) ∙ e .entry-corner .ensures) in
+    let f = answer-refused why (entryRefusal (entry e)) noTile (entryTile (entry e)) (sym (ap tileCase (c .enum-told .given .1)) ∙ e .entry-tile .ensures) in
     ne-eqb _ _ (λ z. never-zero why (sym f ∙ z))
 
 returns : tie.Need-returns Inv-loop μ-loop
@@ -89,8 +85,8 @@ loop-again c =
     let t = c .before .before in
     let l = t .before .before .before .before in
     let f = found t in
-    let n = entry (t .before .before) in
-    let e = c .key-of .ensures (entryTile n) (accepted-entry n (f .0)) (f .1) in (
+    let s = l .before .before .before .before in
+    let e = c .key-of .ensures ∙ ap (sortKey (s .args .by)) (f .1) in (
       l .before .loop .inv .0 ∙ all-here isEntry _ _ (l .loop-test .taken) (eq-eqb _ _ (f .0)),
       mapped-next (l .before .loop .inv .1) (l .loop-test .taken) e,
     )
@@ -110,10 +106,10 @@ keys-spec =
     Inv-loop
     μ-loop
     loop-holds
-    mul-entry-corner
-    shared-slice-read-entry-corner
-    entry-corner-requires
-    enum-known-c
+    mul-entry-tile
+    shared-slice-read-entry-tile
+    entry-tile-requires
+    enum-known-t
     key-of-requires
     mul-keys
     slice-write-keys

@@ -1,57 +1,19 @@
--- `quadtree::rank_of_morton` meets its contract: the column behind its leading 1, then the row.
-use mathlib.Core.Path.{_≡_, _∙_}
-use Prim.Native.Nat.{ℕ, _+_, _*_, _/_, _%_, _^_, _<_}
-use native.Mathlib.Omega.{arith}
+-- `quadtree::rank_of_morton` meets its contract: a Morton code is not 0.
+use Prim.Native.Nat.{ℕ, _<_}
 use borrow.Author.Needs.{needs}
 use Rattle.quadtree.specs.Lists.{by-tile}
-use Rattle.quadtree.specs.Numbers.{zoomIn, evenBits, mortonTile, rankOf}
-use Rattle.quadtree.specs.OneTile.{morton-tile}
-use Rattle.quadtree.specs.RankOrder.{rank-small, morton-rank}
 use Rattle.quadtree.specs.Tree.{morton-small}
 use Rattle.quadtree.proofs.rank_of_morton.Statement.{statement}
 use Rattle.quadtree.proofs.rank_of_morton.Tie as tie
 
-gather-requires : tie.Need-gather-requires
-gather-requires c κs = search needs
-
 zoom-in-requires : tie.Need-zoom-in-requires
-zoom-in-requires c κs = by-tile (λ (q : ℕ). 0 < q) (c .before .pre) (λ t m. morton-small t m .0)
+zoom-in-requires c κs = by-tile (λ (q : ℕ). 0 < q) (c .pre) (λ t m. morton-small t m .0)
 
-cast-result : tie.Need-cast-result
-cast-result c = search needs
-
-shl-result : tie.Need-shl-result
-unfolding zoomIn
-shl-result c = omega (arith, c .zoom-in .ensures)
-
-gather-requires-2 : tie.Need-gather-requires-2
-gather-requires-2 c κs = search needs
-
-abbrev summed : ℕ → ℕ
-summed q = evenBits 32 q * 2 ^ zoomIn q % 2 ^ 64 + evenBits 32 (q / 2)
-
-as-summed : (c : tie.After-gather2)
-    → c .before .before .gather .result * 2 ^ c .before .zoom-in .result % 2 ^ 64 + c .gather2 .result ≡ summed (c .before .before .before .args .q)
-as-summed c = rw (c .before .before .gather .ensures, c .before .zoom-in .ensures, c .gather2 .ensures)
-
-add-result : tie.Need-add-result
-add-result c =
-    let l = by-tile (λ (q : ℕ). summed q < 2 ^ 61) (c .before .before .before .pre) (λ t m. rw (morton-rank t m) (rank-small t m .1)) in
-    omega (arith, as-summed c)
+rank-at-requires : tie.Need-rank-at-requires
+rank-at-requires c κs = search needs
 
 returns : tie.Need-returns
-returns c =
-    let e = by-tile (λ (q : ℕ). summed q ≡ rankOf (mortonTile q)) (c .before .before .before .pre) (λ t m. rw (morton-tile t m) (morton-rank t m)) in
-    as-summed c ∙ e
+returns c = search needs
 
 pub rank-of-morton-spec : {M : Type 1} → statement M
-rank-of-morton-spec =
-    tie.close
-    (tie.spec
-    gather-requires
-    zoom-in-requires
-    cast-result
-    shl-result
-    gather-requires-2
-    add-result
-    returns)
+rank-of-morton-spec = tie.close (tie.spec zoom-in-requires rank-at-requires returns)
