@@ -8,13 +8,13 @@ use native.Mathlib.Nat.{pow-suc, pow-le-pow-right, mul-le-mul-right, div-mul-le-
 use native.Mathlib.Omega.{arith}
 use lib.Count.{trailingZeros}
 use lib.ListN.{getD, length}
-use lib.Pow.{pow-pos, pow-add}
+use lib.Pow.{pow-add}
 use Rattle.constants.specs.Limits.{maxZoom, maxZoom-small}
 use Rattle.ids.specs.Powers.{four-side}
 use Rattle.quadtree.specs.Numbers.{OfMap, mortonOf, locationOf, locationTile}
 use Rattle.quadtree.specs.LowestBit.{location-zeros, location-morton}
 use Rattle.quadtree.specs.OneTile.{morton-inj, location-tile}
-use Rattle.quadtree.specs.Tree.{morton-child, morton-ancestor, morton-bounds, four-codes}
+use Rattle.quadtree.specs.Tree.{four-pos, morton-child, morton-ancestor, morton-bounds, four-codes}
 use Rattle.tile.specs.declared.Tile.{Tile}
 use Rattle.tile_set.specs.Holds.{Valid, Holds, holds-refl, holds-level, ancestor-holds, holder-is-ancestor, child-held, child-of-parent}
 use Rattle.tile_set.specs.Holds.{valid-holder}
@@ -35,9 +35,6 @@ startOf t = locationOf t - lowOf t
 
 abbrev pub endOf : Tile → ℕ
 endOf t = locationOf t + lowOf t
-
-four-pos : (n : ℕ) → 0 < 4 ^ n
-four-pos n = rw (← four-side n) (pow-pos (2 * n))
 
 pub low-pos : (t : Tile) → 0 < lowOf t
 unfolding lowOf

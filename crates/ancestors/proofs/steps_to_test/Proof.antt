@@ -1,5 +1,4 @@
 -- `steps_to_test`: a tile is not an ancestor of itself, and of another tile nothing is tested yet.
-use borrow.Author.Needs.{needs}
 use Rattle.ancestors.specs.Laws.{untested, top-tested}
 use Rattle.ancestors.proofs.steps_to_test.Statement.{statement}
 use Rattle.ancestors.proofs.steps_to_test.Tie as tie

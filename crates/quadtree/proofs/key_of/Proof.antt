@@ -1,6 +1,6 @@
 -- `quadtree::key_of` meets its contract: no shift loses a bit, and the Morton code stands above the location's lowest set bit.
 use mathlib.Core.Path.{_≡_}
-use Prim.Native.Nat.{ℕ, _+_, _-_, _*_, _/_, _%_, _^_, _<_}
+use Prim.Native.Nat.{ℕ, _+_, _-_, _*_, _/_, _%_, _^_, _≤_, _<_}
 use native.Mathlib.Nat.{mod-eq-of-lt}
 use native.Mathlib.Omega.{arith}
 use lib.Pow.{pow-mono}
@@ -12,8 +12,15 @@ use Rattle.quadtree.specs.Corners.{corner-column, corner-location}
 use Rattle.quadtree.specs.Digits.{apart}
 use Rattle.quadtree.specs.LowestBit.{location-small, location-zeros, location-morton}
 use Rattle.quadtree.specs.Numbers.{OfMap, mortonOf, locationOf}
+use Rattle.quadtree.specs.Tree.{deepest}
 use Rattle.quadtree.proofs.key_of.Statement.{statement}
 use Rattle.quadtree.proofs.key_of.Tie as tie
+
+-- a 1 in the place of a zoom's digits: the leading one, and the half of the tile's run
+one : {z : ℕ} → z ≤ maxZoom → 1 * 2 ^ (2 * z) % 2 ^ 64 ≡ 4 ^ z
+one {z} h =
+    let e : 1 * 2 ^ (2 * z) ≡ 4 ^ z = omega (arith, four-side z) in
+    rw e (mod-eq-of-lt (omega (arith, deepest h)))
 
 -- the numbers that the code computes of a tile
 module _ (t : Tile) (m : OfMap t) where
@@ -23,17 +30,9 @@ module _ (t : Tile) (m : OfMap t) where
   row : apart 1 32 (t .y) * 2 ^ (2 * (maxZoom - t .z) + 1) % 2 ^ 64 ≡ apart 1 32 (t .y) * 2 ^ (2 * (maxZoom - t .z) + 1)
   row = mod-eq-of-lt (omega (arith, corner-location t m, location-small t m))
 
-  one : 1 * 2 ^ (2 * maxZoom) % 2 ^ 64 ≡ 4 ^ maxZoom
-  one = let e : 1 * 2 ^ (2 * maxZoom) ≡ 4 ^ maxZoom = omega (arith, four-side maxZoom) in
-      rw e (mod-eq-of-lt (omega (arith, corner-location t m, location-small t m)))
-
-  half : 1 * 2 ^ (2 * (maxZoom - t .z)) % 2 ^ 64 ≡ 4 ^ (maxZoom - t .z)
-  half = let e : 1 * 2 ^ (2 * (maxZoom - t .z)) ≡ 4 ^ (maxZoom - t .z) = omega (arith, four-side (maxZoom - t .z)) in
-      rw e (mod-eq-of-lt (omega (arith, corner-location t m, location-small t m)))
-
   located : {r s : ℕ} → r ≡ apart 1 32 (t .x * 2 ^ (maxZoom - t .z) % 2 ^ 32) → s ≡ apart 1 32 (t .y)
       → 2 * (r + s * 2 ^ (2 * (maxZoom - t .z) + 1) % 2 ^ 64 + 1 * 2 ^ (2 * maxZoom) % 2 ^ 64) + 1 * 2 ^ (2 * (maxZoom - t .z)) % 2 ^ 64 ≡ locationOf t
-  located e f = rw (e, f, column, row, one, half) (corner-location t m)
+  located e f = rw (e, f, column, row, one {z = maxZoom} (omega arith), one {z = maxZoom - t .z} (omega arith)) (corner-location t m)
 
   above : {p : ℕ} → p ≡ locationOf t → p / 2 ^ (2 * (maxZoom - t .z) + 1) ≡ mortonOf t
   above e = rw (e, ← location-zeros t) (location-morton t)
