@@ -7,6 +7,10 @@ use native.Mathlib.Omega.{arith}
 unfoldable pub maxZoom : ℕ
 maxZoom = 30
 
+-- the room for the longest key
+unfoldable pub maxDigits : ℕ
+maxDigits = 30
+
 -- the deepest zoom of the numbers of `to_id`
 unfoldable pub maxIdZoom : ℕ
 maxIdZoom = 29
@@ -35,6 +39,11 @@ formPlaces = 256
 pub maxZoom-small : maxZoom ≤ 30
 unfolding maxZoom
 maxZoom-small = omega arith
+
+-- the longest key has a digit for each zoom
+pub a-digit-a-zoom : maxDigits ≡ maxZoom
+unfolding maxDigits maxZoom
+a-digit-a-zoom = refl
 
 -- the zooms on which the Rust is compared, 0 to 29, are among this library's
 pub at-least-29 : 29 ≤ maxZoom

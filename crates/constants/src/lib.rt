@@ -3,6 +3,9 @@
 // The deepest zoom.
 pub const MAX_ZOOM: u8 = 30;
 
+// The room for the longest key: a digit for each zoom.
+pub const MAX_DIGITS: usize = MAX_ZOOM as usize;
+
 // The deepest zoom of the numbers of `to_id`: those of deeper ones would not fit 64 bits.
 pub const MAX_ID_ZOOM: u8 = 29;
 

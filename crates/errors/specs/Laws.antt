@@ -61,6 +61,14 @@ pub answer-refused : {A : Type 0} (why : Refusal) (n : ℕ) (none v : A) → ref
 answer-refused why zero none v e = let p = positive why in let z : numberOf why ≡ 0 = ap (λ r. r .number) e in absurd (omega (arith, p .1))
 answer-refused why (suc n) none v e = sym (ap (λ r. r .number) e)
 
+-- the number of an answer is its refusal's, and the value of a refused one is the zero
+pub answer-number : {A : Type 0} (n : ℕ) (none v : A) → answer n none v .number ≡ n
+answer-number zero none v = refl
+answer-number (suc n) none v = refl
+
+pub answer-none : {A : Type 0} (n : ℕ) (none v : A) {k : ℕ} → n ≡ suc k → answer n none v .value ≡ none
+answer-none n none v e = rw e
+
 pub never-zero : (why : Refusal) → numberOf why ≡ 0 → ⊥
 never-zero why e = omega (arith, positive why .1)
 

@@ -7,25 +7,21 @@ use native.Mathlib.Omega.{arith}
 use lib.Dec.{ltb}
 use lib.ListN.{length, take, drop, length-append, length-drop, take-append-drop}
 use lib.Pow.{pow-add, high}
+use lib.Seq.{take-at}
 use borrow.Author.Tests.{ltb-false, le-ltb}
 use denote.Ref.{RefT, ptr, now}
-use Rattle.bits.specs.Bits.{bit-shift}
 use Rattle.errors.specs.Answer.{numberOf, _when_, _else_}
 use Rattle.errors.specs.Laws.{positive}
 use Rattle.errors.specs.declared.Refusal.{Refusal}
 use Rattle.quadkey.specs.Bytes.{digits-first}
 use Rattle.quadkey.specs.Key.{keyFrom, allDigits, keyRefusal, spelled}
-use Rattle.quadkey.specs.Spelling.{spelled-small}
+use Rattle.quadkey.specs.Spelling.{key-length, key-in-two, spelled-small}
 use Rattle.key_parts.specs.Parts.{ancestorRefusal, leadingPart}
 
 -- an ancestor's key is the leading part of the key
 pub key-above : (base x y n k : ℕ) → keyFrom base (x / 2 ^ k) (y / 2 ^ k) n ≡ take n (keyFrom base x y (n + k))
-unfolding keyFrom
-key-above base x y zero k = refl
-key-above base x y (suc n) k =
-    let e : suc n + k ≡ suc (n + k) = omega arith in
-    let f : k + n ≡ n + k = omega arith in
-    rw (e, bit-shift x k n, bit-shift y k n, f, key-above base x y n k)
+key-above base x y n k =
+    rw (key-in-two base x y n k) (sym (take-at (keyFrom base (x / 2 ^ k) (y / 2 ^ k) n) (keyFrom base x y k) n (key-length base _ _ n)))
 
 pub digits-take : (n : ℕ) (key : List ℕ) → allDigits key ≡ true → allDigits (take n key) ≡ true
 unfolding allDigits

@@ -2,7 +2,7 @@
 use mathlib.Core.Path.{_≡_, refl, sym, ap}
 use mathlib.Core.Bool.{true}
 use mathlib.Core.List.{List, [], _∷_, _++_}
-use Prim.Native.Nat.{ℕ, zero, suc, _+_, _-_, _*_, _%_, _^_, _≤_, _<_}
+use Prim.Native.Nat.{ℕ, zero, suc, _+_, _-_, _*_, _/_, _%_, _^_, _≤_, _<_}
 use native.Mathlib.Nat.{lt-of-lt-of-le, pow-suc, div-one, add-sub-cancel-left, mod-one}
 use native.Mathlib.Numerals.{add-one}
 use native.Mathlib.Omega.{arith}
@@ -11,7 +11,7 @@ use lib.ListN.{length, take, drop, getD, set, length-append}
 use lib.Pow.{pow-mono}
 use lib.Seq.{take-suc, length-take-le, take-all}
 use borrow.Author.Tests.{le-leb}
-use Rattle.bits.specs.Bits.{bit, bit-small, low-bits-suc, bit-at-seam, bit-below}
+use Rattle.bits.specs.Bits.{bit, bit-small, bit-shift, low-bits-suc, bit-at-seam, bit-below}
 use Rattle.constants.specs.Limits.{maxZoom, maxZoom-small}
 use Rattle.errors.specs.Memory.{front, front-more}
 use Rattle.quadkey.specs.Bytes.{digit-bounds, digits-first}
@@ -40,6 +40,15 @@ pub spelled-small : (i : ℕ) (bs : List ℕ) → spelled i bs < 2 ^ length bs
 unfolding spelled
 spelled-small i [] = omega arith
 spelled-small i (b ∷ bs) = rw (pow-suc 2 (length bs)) (omega (arith, digits-lt (bit-small (b - 48) i) (spelled-small i bs)))
+
+-- the key of a tile is the key of an ancestor k zooms up, followed by a digit for each of the k steps between them
+pub key-in-two : (base x y n k : ℕ) → keyFrom base x y (n + k) ≡ keyFrom base (x / 2 ^ k) (y / 2 ^ k) n ++ keyFrom base x y k
+unfolding keyFrom
+key-in-two base x y zero k = let e : 0 + k ≡ k = omega arith in rw e
+key-in-two base x y (suc n) k =
+    let e : suc n + k ≡ suc (n + k) = omega arith in
+    let f : k + n ≡ n + k = omega arith in
+    rw (e, bit-shift x k n, bit-shift y k n, f, key-in-two base x y n k)
 
 -- what a tile's key spells is the tile's column and row
 pub spelled-column : (x y z : ℕ) → spelled 0 (keyOf x y z) ≡ x % 2 ^ z
