@@ -42,6 +42,10 @@ parent-step {x} {y} {z} {n} m h k =
     level : z - 1 - 1 - (n - 1) ≡ z - 1 - n
     level = omega arith
 
+pub parent-accepted : {x y z n : ℕ} → OnMap x y z → n < z → parentRefusal x y z n ≡ 0
+unfolding parentRefusal
+parent-accepted m h = rw (on-map-accepted m, lt-leb _ _ h)
+
 pub no-parent : (x y n : ℕ) → tileRefusal x y 0 ≡ 0 → parentRefusal x y 0 n ≡ 3
 unfolding parentRefusal
 no-parent x y n e = rw (e, le-leb 0 n (omega arith))

@@ -1,24 +1,32 @@
 -- What the definitions of this crate come to, in document 01's words, and that the Rust gives the same. Nothing is assumed.
-use mathlib.Core.Path.{_≡_, refl, ap, _∙_}
+use mathlib.Core.Path.{_≡_, refl, sym, ap, _∙_, subst}
 use mathlib.Core.Logic.{_↔_}
 use mathlib.Core.Bool.{Bool, true, false, cond, not, _&&_, _||_}
+use mathlib.Core.List.{List, _++_}
 use mathlib.Core.Option.{none, some}
-use Prim.Native.Nat.{ℕ, zero, suc, _+_, _-_, _/_, _^_, _≤_, _<_}
+use Prim.Native.Nat.{ℕ, zero, suc, _+_, _-_, _*_, _/_, _%_, _^_, _≤_, _<_}
 use native.Mathlib.Decide.{decLt}
-use native.Mathlib.Nat.{le-trans}
+use native.Mathlib.Nat.{le-trans, add-sub-cancel-left, div-one, mod-lt, div-add-mod'}
 use native.Mathlib.Omega.{arith}
 use lib.Dec.{eqb, leb}
+use lib.ListN.{length, take, getD, replicate, length-append, length-replicate}
 use lib.Pow.{pow-pos, shr-shr, shr-lt}
+use lib.Seq.{take-at, getD-take, getD-append-add}
 use borrow.Author.Tests.{le-leb, lt-leb, le-ltb, lt-ltb, eqb-true, eq-eqb, ne-eqb}
 use Rattle.bits.specs.Bits.{bit}
 use Rattle.bits.specs.Checked.{returns, read, fits, minus-fits, one-shifted, shifted-down}
-use Rattle.constants.specs.Limits.{maxZoom, at-least-29}
+use Rattle.constants.specs.Limits.{maxZoom, maxDigits, a-digit-a-zoom, at-least-29}
+use Rattle.errors.specs.Laws.{answer-number, answer-none}
+use Rattle.quadkey.specs.Key.{digitAt, keyOf}
+use Rattle.quadkey.specs.Spelling.{key-length, key-digit, key-in-two, key-low}
 use Rattle.tile.specs.OnMap.{OnMap, tileAt, noTile, tileRefusal, on-map-accepted, accepted-on-map, off-column, off-row}
 use Rattle.tile.specs.Rust.{To29, to-29-on-map, accepted, rustFlipy}
 use Rattle.tile.specs.Theorems.{power-fits, rust-flipped-row}
 use Rattle.tile.specs.declared.Tile.{Tile}
 use Rattle.fns.specs.Fns.{minMaxOf, isTile, flipyOf, parentRefusal, parentOf, differ, firstZoom, bbox2zoomOf}
-use Rattle.fns.specs.Laws.{First, first-zoom, one-first, mask-tells-apart, half-on-map, parent-step, nearest-parent}
+use Rattle.fns.specs.Laws.{First, first-zoom, one-first, mask-tells-apart, half-on-map, parent-step, nearest-parent, parent-accepted}
+use Rattle.fns.specs.Parent.{Ancestor, stepDigits, parentGiven}
+use Rattle.fns.specs.Steps.{accepted-parent, getD-replicate}
 use Rattle.fns.specs.Rust.{rustMinmax, rustValid, rustParent, noneIsThree, rustZooms, rustBbox2zoom}
 
 -- "n is extra steps, not a zoom; the answer has zoom z − 1 − n and x, y shifted by 1 + n"
@@ -62,6 +70,103 @@ parent-of-the-parent {x} {y} {z} {n} m h =
     let far = parent-is-the-shift m h in
     let t = tileAt (x / 2 ^ (1 + n)) (y / 2 ^ (1 + n)) (z - 1 - n) in
     (t, parent-is-the-shift m l, rw (nearest-parent p k, far, shr-shr x (1 + n) 1, shr-shr y (1 + n) 1, e, s))
+
+-- Document 02, request K9. "The tile itself is compared as before": number and tile are those of `parentOf`
+pub the-tile-is-as-before : (x y z n : ℕ)
+    → record { number = parentGiven x y z n .number; value = parentGiven x y z n .value .tile } ≡ parentOf x y z n
+the-tile-is-as-before x y z n = pick (parentRefusal x y z n) refl
+  where
+    pick : (k : ℕ) → parentRefusal x y z n ≡ k
+        → record { number = parentGiven x y z n .number; value = parentGiven x y z n .value .tile } ≡ parentOf x y z n
+    pick zero e = rw e
+    pick (suc k) e = rw e
+
+-- "the digits of the steps taken, deepest last, as key bytes in room for the longest key, with their count and zeros after them"
+pub record Steps (x y z n : ℕ) (a : Ancestor) : Type 0 where
+  pub up : a .tile ≡ tileAt (x / 2 ^ (1 + n)) (y / 2 ^ (1 + n)) (z - 1 - n)
+  pub steps : a .count ≡ 1 + n
+  pub room : length (a .digits) ≡ maxDigits
+  pub taken : take (a .count) (a .digits) ≡ stepDigits x y n
+  pub zeros : (i : ℕ) → a .count ≤ i → getD (a .digits) i 0 ≡ 0
+
+pub the-steps-taken : (x y z n : ℕ) → parentGiven x y z n .number ≡ 0 → OnMap x y z × (n < z) × Steps x y z n (parentGiven x y z n .value)
+the-steps-taken x y z n e =
+    let f : parentRefusal x y z n ≡ 0 = sym (answer-number (parentRefusal x y z n) _ _) ∙ e in
+    let a = accepted-parent x y z n f in
+    let l : 1 + n ≤ maxDigits = omega (arith, a .0 .zoom, a .1, a-digit-a-zoom) in
+    let k = key-length 48 x y (1 + n) in (
+      a .0,
+      a .1,
+      rw f (record {
+        up = refl;
+        steps = refl;
+        room = rw (length-append, k, length-replicate {A = ℕ} (maxDigits - (1 + n)) 0) (omega arith);
+        taken = take-at (stepDigits x y n) (replicate (maxDigits - (1 + n)) 0) (1 + n) k;
+        zeros = λ i h. zero-behind (stepDigits x y n) (maxDigits - (1 + n)) i (rw k h);
+      }),
+    )
+  where
+    zero-behind : (l : List ℕ) (m i : ℕ) → length l ≤ i → getD (l ++ replicate m 0) i 0 ≡ 0
+    zero-behind l m i h =
+        let g : length l + (i - length l) ≡ i = omega arith in
+        rw g at (getD-append-add l (replicate m 0) (i - length l) 0 ∙ getD-replicate (i - length l) m)
+
+-- "For every accepted call the ancestor's key followed by those digits is the key of the tile asked about."
+pub the-key-goes-on : (x y z n : ℕ) → parentGiven x y z n .number ≡ 0 → let a = parentGiven x y z n .value in
+    keyOf (a .tile .x) (a .tile .y) (a .tile .z) ++ take (a .count) (a .digits) ≡ keyOf x y z
+the-key-goes-on x y z n e =
+    let s = the-steps-taken x y z n e in
+    let k : z - 1 - n + (1 + n) ≡ z = omega (arith, s .1) in
+    rw (s .2 .taken, s .2 .up) (sym (rw k at (key-in-two 48 x y (z - 1 - n) (1 + n))))
+
+-- s is the child of p that a key's byte names
+pub record ChildBy (byte : ℕ) (s p : Tile) : Type 0 where
+  pub zoom : s .z ≡ suc (p .z)
+  pub column : s .x ≡ 2 * p .x + bit (byte - 48) 0
+  pub row : s .y ≡ 2 * p .y + bit (byte - 48) 1
+
+-- "by which quadkey digit each step was left": step k goes from the tile k zooms up to the one above it, and its digit is the k-th from the end
+pub each-digit-is-the-child-that-was-left : (x y z n k : ℕ) → parentGiven x y z n .number ≡ 0 → k ≤ n
+    → ChildBy (getD (parentGiven x y z n .value .digits) (n - k) 0)
+    (tileAt (x / 2 ^ k) (y / 2 ^ k) (z - k)) (tileAt (x / 2 ^ (1 + k)) (y / 2 ^ (1 + k)) (z - 1 - k))
+each-digit-is-the-child-that-was-left x y z n k e h =
+    let s = the-steps-taken x y z n e in
+    let g : n - k < a .count = rw (s .2 .steps) (omega arith) in
+    let b : getD (a .digits) (n - k) 0 ≡ 48 + digitAt x y k =
+    sym (getD-take (a .count) (a .digits) (n - k) 0 g) ∙ (ap (λ (l : List ℕ). getD l (n - k) 0) (s .2 .taken) ∙ digit) in
+    subst (λ (byte : ℕ). ChildBy byte (tileAt (x / 2 ^ k) (y / 2 ^ k) (z - k)) (tileAt (x / 2 ^ (1 + k)) (y / 2 ^ (1 + k)) (z - 1 - k))) (sym b)
+    (record {
+      zoom = omega (arith, s .1);
+      column = rw (above x, add-sub-cancel-left 48 (digitAt x y k), div-one (digitAt x y k)) (omega arith);
+      row = rw (above y, add-sub-cancel-left 48 (digitAt x y k)) (omega arith);
+    })
+  where
+    a : Ancestor
+    a = parentGiven x y z n .value
+
+    above : (c : ℕ) → c / 2 ^ (1 + k) ≡ c / 2 ^ k / 2
+    above c = let f : 1 + k ≡ k + 1 = omega arith in rw f (sym (shr-shr c k 1))
+
+    digit : getD (stepDigits x y n) (n - k) 0 ≡ 48 + digitAt x y k
+    digit = let f : 1 + n - suc (n - k) ≡ k = omega arith in rw f at (key-digit 48 x y (1 + n) (n - k) (omega arith))
+
+-- document 03: "Refused: all zeros."
+pub refused-all-zeros : (x y z n : ℕ) {k : ℕ} → parentGiven x y z n .number ≡ suc k
+    → parentGiven x y z n .value ≡ record { tile = noTile; digits = replicate maxDigits 0; count = 0 }
+refused-all-zeros x y z n e =
+    let r = parentRefusal x y z n in
+    answer-none r _ _ (sym (answer-number r _ _) ∙ e)
+
+-- the digits do not depend on what lies above the ancestor: with any tile above it as the root they are the same
+pub the-digits-under-any-root : (x y z n w : ℕ) → OnMap x y z → n < w → w ≤ z
+    → (parentGiven (x % 2 ^ w) (y % 2 ^ w) w n .number ≡ 0)
+    × (parentGiven (x % 2 ^ w) (y % 2 ^ w) w n .value .digits ≡ parentGiven x y z n .value .digits)
+the-digits-under-any-root x y z n w m h l =
+    let u : OnMap (x % 2 ^ w) (y % 2 ^ w) w = record { zoom = omega (arith, m .zoom); column = mod-lt x (pow-pos w); row = mod-lt y (pow-pos w) } in
+    let k = key-low 48 (x / 2 ^ w) (y / 2 ^ w) w (x % 2 ^ w) (y % 2 ^ w) (1 + n) (omega arith) in
+    let k = rw (div-add-mod' x (2 ^ w), div-add-mod' y (2 ^ w)) at k in
+    let g : n < z = omega arith in
+    rw (parent-accepted u h, parent-accepted m g, k) (refl, refl)
 
 -- The Rust, by the functions of Rust.antt. The parent of a tile to zoom 29 is one
 pub half-to-29 : {x y z : ℕ} → To29 x y z → 0 < z → To29 (x / 2) (y / 2) (z - 1)

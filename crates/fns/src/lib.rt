@@ -1,5 +1,7 @@
 // What fns.rs gives of one tile: its limits, its flipped row, its ancestors, and the zoom at which two columns and rows part.
-use constants::MAX_ZOOM;
+pub mod steps;
+
+use constants::MAX_DIGITS;
 use errors::Check;
 use errors::Refusal;
 use errors::U32Answer;
@@ -7,11 +9,12 @@ use tile::OptionU8;
 use tile::Tile;
 use tile::TileAnswer;
 ghost use mathlib.Core.Path.{_≡_};
-ghost use Prim.Native.Nat.{_+_, _/_, _^_, _<_};
+ghost use Prim.Native.Nat.{_<_, _≤_};
+ghost use Rattle.errors.specs.Answer.{numberOf};
 ghost use Rattle.errors.specs.Cases.{u32Case};
 ghost use Rattle.tile.specs.Option.{unwrapOr};
-ghost use Rattle.tile.specs.OnMap.{tileCase};
-ghost use Rattle.fns.specs.Fns.{minMaxCase, minMaxOf, isTile, flipyOf, parentOf, differ, bbox2zoomOf};
+ghost use Rattle.fns.specs.Parent.{parentCase, parentGiven};
+ghost use Rattle.fns.specs.Fns.{minMaxCase, minMaxOf, isTile, flipyOf, differ, bbox2zoomOf};
 
 // The lowest and the highest column, and row, of a zoom.
 pub struct Limits {
@@ -22,6 +25,14 @@ pub struct Limits {
 pub enum LimitsAnswer {
     Found(Limits),
     Refused(Refusal),
+}
+
+// What `parent` answers: the ancestor, and the digits of the steps to it, deepest last, with zeros after them. They are zeros where the
+// call is refused. An array stands beside an enum, since no enum that holds one is covered.
+pub struct ParentAnswer {
+    pub tile: TileAnswer,
+    pub digits: [u8; MAX_DIGITS],
+    pub count: u8,
 }
 
 // The first and the last column, and row, of a zoom.
@@ -64,34 +75,46 @@ pub fn yflip(y: u32, z: u8) -> U32Answer
     flipy(y, z)
 }
 
-// The ancestor 1 + n zooms up; n is extra steps, and no zoom.
-pub fn parent(x: u32, y: u32, z: u8, n: OptionU8) -> TileAnswer
-    ensures { λ r. ⌜ tileCase r ≡ parentOf x y z (unwrapOr n 0) ⌝ }
+// The ancestor 1 + n zooms up, and by which digit each step to it was left; n is extra steps, and no zoom.
+pub fn parent(x: u32, y: u32, z: u8, n: OptionU8) -> ParentAnswer
+    ensures { λ r. ⌜ parentCase r ≡ parentGiven x y z (unwrapOr n 0) ⌝ }
 {
-    if let Check::Refused(why) = tile::check(x, y, z) {
-        return TileAnswer::Refused(why);
+    let extra = n.unwrap_or(0);
+    let mut tx = 0;
+    let mut ty = 0;
+    let mut tz = 0;
+    let mut digits = [0u8; MAX_DIGITS];
+    let number = steps::parent(x, y, z, extra, &mut tx, &mut ty, &mut tz, &mut digits);
+    if number != 0 {
+        return ParentAnswer {
+            tile: TileAnswer::Refused(refusal(number)),
+            digits,
+            count: 0,
+        };
     }
-    let steps = n.unwrap_or(0);
-    if z <= steps {
-        return TileAnswer::Refused(Refusal::NoRelative);
+    ParentAnswer {
+        tile: TileAnswer::Found(Tile {
+            x: tx,
+            y: ty,
+            z: tz,
+        }),
+        digits,
+        count: 1 + extra,
     }
-    TileAnswer::Found(Tile {
-        x: parent_coordinate(x, 1, steps),
-        y: parent_coordinate(y, 1, steps),
-        z: z - 1 - steps,
-    })
 }
 
-// `parent`'s recursion, for a column or a row: `up` zooms above it, and one zoom more for each step that is left. The zooms are
-// counted and shifted by at the end: the compiler makes one shift of that, where halving at each step stays a loop.
-fn parent_coordinate(c: u32, up: u8, n: u8) -> u32
-    requires { ⌜ up + n < 32 ⌝ }
-    ensures { λ r. ⌜ r ≡ c / 2 ^ (up + n) ⌝ }
+// The refusal of a number by which `parent` refuses.
+fn refusal(number: u8) -> Refusal
+    requires { ⌜ (0 < number) × (number ≤ 3) ⌝ }
+    ensures { λ why. ⌜ numberOf why ≡ number ⌝ }
 {
-    if n == 0 {
-        return c >> up;
+    if number == 1 {
+        return Refusal::Zoom;
     }
-    parent_coordinate(c, up + 1, n - 1)
+    if number == 2 {
+        return Refusal::OffMap;
+    }
+    Refusal::NoRelative
 }
 
 // The zoom of the tile that holds a box of 32-bit corners: the bits of its columns, and of its rows, agree above it.

@@ -6,6 +6,9 @@ use Rattle.errors.specs.Answer.{Answer}
 use Rattle.errors.specs.Laws.{never-zero}
 use Rattle.fns.specs.Fns.{parentOf}
 use Rattle.fns.specs.Laws.{no-parent, nearest-parent}
+use Rattle.fns.specs.Parent.{Ancestor, parentCase, parentGiven}
+use Rattle.fns.specs.Theorems.{the-tile-is-as-before}
+use Rattle.fns.specs.declared.ParentAnswer.{ParentAnswer}
 use Rattle.tile.specs.OnMap.{OnMap, tileAt, tileCase, on-map-accepted}
 use Rattle.tile.specs.declared.Tile.{Tile}
 use Rattle.tile.specs.declared.TileAnswer.{TileAnswer}
@@ -17,6 +20,11 @@ use Rattle.parent.specs.declared.OptionTile.the-variants.{None, Some}
 abbrev pub optionOf : TileAnswer → OptionTile
 optionOf (Found t) = Some t
 optionOf (Refused why) = None
+
+-- of what `parent` hands back, the number and the tile are document 01's
+pub given-tile : (x y z n : ℕ) (r : ParentAnswer) → parentCase r ≡ parentGiven x y z n → tileCase (r .tile) ≡ parentOf x y z n
+given-tile x y z n r e =
+    ap (λ (a : Answer Ancestor). record { number = a .number; value = a .value .tile }) e ∙ the-tile-is-as-before x y z n
 
 pub above-parent : (x y z : ℕ) → OnMap x y z → (r : TileAnswer) → tileCase r ≡ parentOf x y z 0 → optionOf r ≡ aboveOf x y z
 above-parent x y zero m (Found t) e =

@@ -83,7 +83,9 @@ fn above(x: u32, y: u32, z: u8) -> OptionTile
     requires { ⌜ OnMap x y z ⌝ }
     ensures { λ r. ⌜ r ≡ aboveOf x y z ⌝ }
 {
-    match fns::parent(x, y, z, OptionU8::None) {
+    let up = fns::parent(x, y, z, OptionU8::None);
+    let tile = up.tile;
+    match tile {
         TileAnswer::Found(t) => OptionTile::Some(t),
         TileAnswer::Refused(_) => OptionTile::None,
     }
