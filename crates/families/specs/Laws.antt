@@ -1,15 +1,17 @@
 -- Laws of the pass, one number or one family at a time.
 use mathlib.Core.Path.{_≡_, refl, sym, ap, _∙_}
-use mathlib.Core.Bool.{true, false}
+use mathlib.Core.Bool.{true, false, cond}
 use mathlib.Core.List.{List, [], _∷_}
 use Prim.Native.Nat.{ℕ, zero, suc, _+_, _/_, _%_, _≤_, _<_}
 use native.Mathlib.Omega.{arith}
-use lib.Dec.{leb, eqb}
+use lib.Dec.{leb, ltb, eqb}
 use lib.ListN.{length, getD, drop}
 use lib.Seq.{drop-cons, drop-drop}
 use borrow.Author.Tests.{leb-true, eqb-true, le-leb, lt-leb, eq-eqb, ne-eqb}
 use Rattle.bits.specs.Tests.{and-parts}
-use Rattle.families.specs.Join.{fourFrom, joinAfter, joinOf}
+use Rattle.constants.specs.Limits.{maxZoom}
+use Rattle.quadtree.specs.Tree.{four-mono}
+use Rattle.families.specs.Join.{fourFrom, joinAfter, joinOf, firstMorton}
 
 -- the numbers that are skipped do not matter
 pub join-skips : (from k : ℕ) (l : List ℕ) → joinAfter from k l ≡ joinOf from (drop k l)
@@ -55,6 +57,11 @@ pub four-last : (from : ℕ) (l : List ℕ) → 4 ≤ length l → from ≤ getD
     → eqb (getD l 0 0 + 3) (getD l 3 0) ≡ fourFrom from l
 unfolding fourFrom
 four-last from l h k e = rw (le-leb _ _ h, le-leb _ _ k, eq-eqb _ _ e)
+
+-- the codes from `first_morton` on are not the root's
+pub first-not-root : (m : ℕ) → 1 < firstMorton m
+unfolding firstMorton
+first-not-root m = let n = cond (ltb m maxZoom) m maxZoom in let e = four-mono {i = 1} {j = n + 1} (omega arith) in omega arith
 
 -- one number, or one family, of a list
 pub join-cons : (from q : ℕ) (l : List ℕ) → fourFrom from (q ∷ l) ≡ false → joinOf from (q ∷ l) ≡ q ∷ joinOf from l

@@ -2,11 +2,11 @@
 use constants::MAX_ZOOM;
 use quadtree::Key;
 ghost use mathlib.Core.Path.{_≡_};
-ghost use Prim.Native.Nat.{_+_, _%_, _<_, _≤_};
-ghost use lib.ListN.{length, take, drop};
+ghost use Prim.Native.Nat.{_<_, _≤_};
+ghost use lib.ListN.{length, take, drop, getD};
 ghost use Rattle.families.specs.Join.{fourFrom, joinOf, firstMorton};
 ghost use Rattle.families.specs.Pass.{Passed, Merges, Still};
-ghost use Rattle.quadtree.specs.Lists.{TileNumbers};
+ghost use Rattle.quadtree.specs.Lists.{TileNumber, TileNumbers};
 ghost use Rattle.quadtree.specs.Numbers.{mortonOf};
 ghost use Rattle.sort.specs.Sort.{By};
 
@@ -84,6 +84,7 @@ fn first_morton(m: u8) -> u64
 
 // Families of Morton codes from `from` on are joined. What is left stands at the front, and the answer says how many numbers it is.
 fn join(codes: &mut [u64], from: u64) -> usize
+    requires { ⌜ TileNumbers mortonOf (now codes) × (1 < from) ⌝ }
     ensures { λ r. ⌜ (r ≤ length (now (codes .exit))) × (take r (now (codes .exit)) ≡ joinOf from (now (codes .entry))) ⌝ }
 {
     let mut count = 0;
@@ -102,8 +103,9 @@ fn join(codes: &mut [u64], from: u64) -> usize
     count
 }
 
+// Whether a family starts at place i: its first tile is left by the first digit, and the codes rise, so the first and the fourth decide.
 fn family_at(codes: &[u64], i: usize, from: u64) -> bool
-    requires { ⌜ i < length (now codes) ⌝ }
+    requires { ⌜ (i < length (now codes)) × TileNumber mortonOf (getD (now codes) i 0) × (1 < from) ⌝ }
     ensures { λ r. ⌜ r ≡ fourFrom from (drop i (now (codes .entry))) ⌝ }
 {
     if codes.len() - i < 4 {
@@ -113,16 +115,8 @@ fn family_at(codes: &[u64], i: usize, from: u64) -> bool
     if q < from {
         return false;
     }
-    if q % 4 != 0 {
+    if child_digit::of_morton(q) != b'0' {
         return false;
     }
-    fourth(q) == codes[i + 3]
-}
-
-// The last Morton code of the family that starts with q.
-fn fourth(q: u64) -> u64
-    requires { ⌜ q % 4 ≡ 0 ⌝ }
-    ensures { λ r. ⌜ r ≡ q + 3 ⌝ }
-{
-    q + 3
+    q + 3 == codes[i + 3]
 }

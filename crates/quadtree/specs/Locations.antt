@@ -14,7 +14,7 @@ use Rattle.ids.specs.Powers.{four-side}
 use Rattle.quadtree.specs.Numbers.{OfMap, mortonOf, locationOf, locationTile}
 use Rattle.quadtree.specs.LowestBit.{location-zeros, location-morton}
 use Rattle.quadtree.specs.OneTile.{morton-inj, location-tile}
-use Rattle.quadtree.specs.Tree.{four-pos, morton-child, morton-ancestor, morton-bounds, four-codes}
+use Rattle.quadtree.specs.Tree.{four-mono, four-pos, morton-child, morton-ancestor, morton-bounds, four-codes}
 use Rattle.tile.specs.declared.Tile.{Tile}
 use Rattle.tile_set.specs.Holds.{Valid, Holds, holds-refl, holds-level, ancestor-holds, holder-is-ancestor, child-held, child-of-parent}
 use Rattle.tile_set.specs.Holds.{valid-holder}
@@ -228,6 +228,10 @@ end-small t m =
     let l : 4 ^ maxZoom ≤ 4 ^ 30 = pow-le-pow-right (omega arith) maxZoom-small in
     omega (arith, mul-le-mul-right (lowOf t) a, location-sum t)
 
+pub low-small : (t : Tile) → lowOf t ≤ 2 ^ 60
+unfolding lowOf
+low-small t = four-mono {j = 30} (omega (arith, maxZoom-small))
+
 -- a number that is a location
 pub record IsLocation (k : ℕ) : Type 0 where
   pub of-map : OfMap (locationTile k)
@@ -251,12 +255,18 @@ pub record Room (k w : ℕ) : Type 0 where
   pub some : 0 < w
   pub below : w ≤ k
   pub fits : k + w < 2 ^ 63
+  pub small : w ≤ 2 ^ 60
 
 pub room : {k w : ℕ} → IsLocation k → w ≡ lowOf (locationTile k) → Room k w
 room {k} s e =
     let t = locationTile k in
     let p = s .again in
-    record { some = omega (arith, low-pos t); below = omega (arith, low-below t); fits = omega (arith, end-small t (s .of-map)) }
+    record {
+      some = omega (arith, low-pos t);
+      below = omega (arith, low-below t);
+      fits = omega (arith, end-small t (s .of-map));
+      small = omega (arith, low-small t);
+    }
 
 -- the tile of the i-th number
 abbrev pub tiles : List ℕ → ℕ → Tile

@@ -3,9 +3,11 @@ use mathlib.Core.Path.{_≡_, sym, ap, _∙_}
 use mathlib.Core.Bool.{true, false, false≢true}
 use mathlib.Core.Logic.{_↔_}
 use mathlib.Core.List.{List}
-use Prim.Native.Nat.{ℕ, _-_, _*_, _%_, _≤_, _<_}
+use Prim.Native.Nat.{ℕ, _+_, _-_, _*_, _%_, _≤_, _<_}
 use native.Mathlib.Omega.{arith}
 use lib.ListN.{getD}
+use Rattle.child_digit.specs.Digit.{digitOf}
+use Rattle.child_digit.specs.Theorems.{the-last-digit}
 use Rattle.constants.specs.Limits.{maxZoom}
 use Rattle.quadtree.specs.Numbers.{mortonOf, locationOf, locationTile}
 use Rattle.quadtree.specs.OneTile.{location-tile}
@@ -17,19 +19,16 @@ use Rattle.tile_set.specs.Holds.{valid-parent, valid-child}
 use Rattle.tile_set.specs.Set.{child, parentTile}
 use Rattle.settle.specs.Settle.{Stand, Family}
 
--- k, whose lowest set bit is w, and the three numbers below it
+-- the three numbers below k, whose lowest set bit is w, and k, which is left by the last digit
 pub record Siblings (m : ℕ) (l : List ℕ) (count k w : ℕ) : Type 0 where
   pub three : 3 ≤ count
   pub deep : m < locationTile k .z
-  pub fourth : mortonOf (locationTile k) % 4 ≡ 3
-  pub third : getD l (count - 1) 0 ≡ k - 2 * w
-  pub second : getD l (count - 2) 0 ≡ k - 2 * (2 * w)
-  pub first : getD l (count - 3) 0 ≡ k - 3 * (2 * w)
+  pub fourth : digitOf (locationTile k) ≡ 51
+  pub third : getD l (count - 1) 0 + 2 * w ≡ k
+  pub second : getD l (count - 2) 0 + 2 * (2 * w) ≡ k
+  pub first : getD l (count - 3) 0 + 3 * (2 * w) ≡ k
 
 module _ (m : ℕ) (l : List ℕ) (count k w : ℕ) (s : Stand l count k) (e : w ≡ lowOf (locationTile k)) where
-  pub siblings-fit : mortonOf (locationTile k) % 4 ≡ 3 → 3 * (2 * w) ≤ k
-  siblings-fit q = omega (arith, fourth-far (locationTile k) q, e, s .top .again)
-
   -- the locations of p's children, where k is the fourth
   module _ (p : Tile) (fourth : locationTile k ≡ child p 1 1) where
     higher : p .z < maxZoom
@@ -53,15 +52,22 @@ module _ (m : ℕ) (l : List ℕ) (count k w : ℕ) (s : Stand l count k) (e : w
     pub parent : locationOf p ≡ k - 3 * w
     parent = parent-location p higher ∙ rw (low, top)
 
+    pub siblings-fit : 3 * (2 * w) ≤ k
+    siblings-fit = omega (arith, fourth-far (locationTile k) (rw fourth (child-fourth p)), e, s .top .again)
+
   pub family-siblings : (p : Tile) → Family m (tiles l) count (locationTile k) p → Siblings m l count k w
-  family-siblings p f = record {
-    three = f .three;
-    deep = omega (arith, ap (λ (t : Tile). t .z) (f .fourth), f .deep);
-    fourth = rw (f .fourth) (child-fourth p);
-    third = location 1 (omega arith) (f .third) ∙ third p (f .fourth);
-    second = location 2 (omega arith) (f .second) ∙ second p (f .fourth);
-    first = location 3 (omega arith) (f .first) ∙ first p (f .fourth);
-  }
+  family-siblings p f =
+      let fit = siblings-fit p (f .fourth) in
+      let deep : m < locationTile k .z = omega (arith, ap (λ (t : Tile). t .z) (f .fourth), f .deep) in
+      let last : mortonOf (locationTile k) % 4 ≡ 3 = rw (f .fourth) (child-fourth p) in
+      record {
+        three = f .three;
+        deep = deep;
+        fourth = omega (arith, the-last-digit (locationTile k) (s .top .of-map) (omega arith));
+        third = omega (arith, location 1 (omega arith) (f .third), third p (f .fourth));
+        second = omega (arith, location 2 (omega arith) (f .second), second p (f .fourth));
+        first = omega (arith, location 3 (omega arith) (f .first), first p (f .fourth));
+      }
     where
       location : (n : ℕ) → (0 < n) × (n ≤ 3) → {c : Tile} → tiles l (count - n) ≡ c → getD l (count - n) 0 ≡ locationOf c
       location n g q = sym (s .each (count - n) (omega (arith, f .three)) .again) ∙ ap locationOf q
@@ -72,9 +78,9 @@ module _ (m : ℕ) (l : List ℕ) (count k w : ℕ) (s : Stand l count k) (e : w
     record {
       deep = omega (arith, g .deep);
       three = g .three;
-      first = tile 0 0 (omega arith) (omega arith) (g .first ∙ sym (first p fourth));
-      second = tile 1 0 (omega arith) (omega arith) (g .second ∙ sym (second p fourth));
-      third = tile 0 1 (omega arith) (omega arith) (g .third ∙ sym (third p fourth));
+      first = tile 0 0 (omega arith) (omega arith) (omega (arith, g .first, first p fourth));
+      second = tile 1 0 (omega arith) (omega arith) (omega (arith, g .second, second p fourth));
+      third = tile 0 1 (omega arith) (omega arith) (omega (arith, g .third, third p fourth));
       fourth = fourth;
     },
   )
@@ -82,8 +88,11 @@ module _ (m : ℕ) (l : List ℕ) (count k w : ℕ) (s : Stand l count k) (e : w
       p : Tile
       p = parentTile (locationTile k)
 
+      last : mortonOf (locationTile k) % 4 ≡ 3
+      last = omega (arith, the-last-digit (locationTile k) (s .top .of-map) (omega (arith, g .deep)), g .fourth)
+
       fourth : locationTile k ≡ child p 1 1
-      fourth = fourth-child (locationTile k) (omega (arith, g .deep)) (g .fourth)
+      fourth = fourth-child (locationTile k) (omega (arith, g .deep)) last
 
       tile : (i j : ℕ) → i < 2 → j < 2 → {n : ℕ} → n ≡ locationOf (child p i j) → locationTile n ≡ child p i j
       tile i j a b q =

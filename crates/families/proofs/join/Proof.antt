@@ -8,7 +8,8 @@ use native.Mathlib.Omega.{arith}
 use native.Mathlib.Numerals.{add-one}
 use borrow.Author.Needs.{needs}
 use lib.ListN.{length, take, drop, getD, set, length-set, length-drop, drop-of-length-le}
-use lib.Seq.{take-suc-set, drop-set-lt}
+use lib.Seq.{take-suc-set, drop-set-lt, getD-set-other}
+use Rattle.quadtree.specs.Lists.{number-at}
 use Rattle.families.specs.Join.{fourFrom, joinAfter, joinOf}
 use Rattle.families.specs.Laws.{four-true, join-alone, join-family}
 use Rattle.families.proofs.join.Statement.{statement}
@@ -19,6 +20,7 @@ record Mid (from : ℕ) (s₀ s : List ℕ) (count i : ℕ) : Type 0 where
   within : i ≤ length s
   long : length s ≡ length s₀
   done : take count s ++ joinOf from (drop i s) ≡ joinOf from s₀
+  rest : (j : ℕ) → i ≤ j → getD s j 0 ≡ getD s₀ j 0
 
 -- a number is written behind those that stand at the front, and the numbers up to j are done
 moved : (from : ℕ) (s₀ s : List ℕ) (count i j v : ℕ) → Mid from s₀ s count i → i < length s → i < j → j ≤ length s
@@ -29,6 +31,7 @@ moved from s₀ s count i j v M lt h l e = record {
   long = length-set s count v ∙ M .long;
   done = rw (add-one count, take-suc-set s count v (omega (arith, M .order)), drop-set-lt j s count v (omega (arith, M .order)), append-assoc (take count s) (v ∷ []) (joinOf from (drop j s)))
       (rw e at (M .done));
+  rest = λ k g. getD-set-other s count k v 0 (λ u. omega (arith, M .order)) ∙ M .rest k (omega arith);
 }
 
 module _ (from : ℕ) (s₀ s : List ℕ) (count i : ℕ) (M : Mid from s₀ s count i) (lt : i < length s) where
@@ -52,7 +55,7 @@ abbrev μ-loop : tie.MeasureT-loop
 μ-loop codes₀ from count₀ i₀ codes count i = length codes₀ - i
 
 loop-holds : tie.Need-loop-holds Inv-loop μ-loop
-loop-holds c = record { order = omega arith; within = omega arith; long = refl; done = refl }
+loop-holds c = record { order = omega arith; within = omega arith; long = refl; done = refl; rest = λ j h. refl }
 
 mul-q : tie.Need-mul-q Inv-loop μ-loop
 mul-q c = search needs
@@ -61,7 +64,11 @@ slice-read-q : tie.Need-slice-read-q Inv-loop μ-loop
 slice-read-q c = search needs
 
 family-at-requires : tie.Need-family-at-requires Inv-loop μ-loop
-family-at-requires c κs = search needs
+family-at-requires c κs =
+    let s = c .before .before .before .before .before in
+    let L = c .before .before .before .loop in
+    let lt = c .before .before .loop-test .taken in
+    (lt, rw (L .inv .rest (L .i) (omega arith)) (number-at (s .args .codes .now) (L .i) (s .pre .0) (omega (arith, L .inv .long))), s .pre .1)
 
 mul-codes : tie.Need-mul-codes Inv-loop μ-loop
 mul-codes c = search needs

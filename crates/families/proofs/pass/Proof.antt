@@ -5,7 +5,10 @@ use Prim.Native.Nat.{ℕ}
 use native.Mathlib.Omega.{arith}
 use lib.ListN.{length, take, drop, length-append}
 use lib.Seq.{take-append-le, length-take-le}
+use Rattle.quadtree.specs.Numbers.{mortonOf}
+use Rattle.tile_list.specs.Laws.{once-numbers}
 use Rattle.families.specs.Join.{firstMorton, joinOf}
+use Rattle.families.specs.Laws.{first-not-root}
 use Rattle.families.specs.Once.{passed}
 use borrow.Author.Needs.{needs}
 use Rattle.families.proofs.pass.Statement.{statement}
@@ -24,7 +27,10 @@ first-morton-requires : tie.Need-first-morton-requires
 first-morton-requires c κs = search needs
 
 join-requires : tie.Need-join-requires
-join-requires c κs = search needs
+join-requires c κs =
+    let O = c .before .before .before .before .once in
+    let s = c .before .before .before .before .before .before .before in
+    (rw (O .ensures .front) (once-numbers mortonOf (s .args .codes .now) (s .pre .0)), rw (c .first-morton .ensures) (first-not-root (s .args .m)))
 
 same-length : tie.Need-same-length
 same-length c = search needs

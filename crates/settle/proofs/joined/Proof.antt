@@ -7,7 +7,7 @@ use Rattle.quadtree.specs.Numbers.{locationTile}
 use Rattle.tile.specs.declared.Tile.{Tile}
 use Rattle.quadtree.specs.Locations.{room, tiles}
 use Rattle.settle.specs.Settle.{Stand, Family, Joins, stop, join}
-use Rattle.settle.specs.Siblings.{siblings-fit, parent, family-siblings, join-stand}
+use Rattle.settle.specs.Siblings.{siblings-fit, parent, join-stand}
 use Rattle.settle.proofs.joined.Statement.{statement}
 use Rattle.settle.proofs.joined.Tie as tie
 
@@ -39,8 +39,7 @@ sub-top : tie.Need-sub-top Inv-loop μ-loop
 sub-top c =
     let s = c .before .before .before .loop .inv .0 in
     let f = found (c .before) in
-    let g = family-siblings _ _ _ _ (c .low-bit .result) s (c .low-bit .ensures) (f .0) (f .1) in
-    omega (arith, siblings-fit 0 _ _ _ (c .low-bit .result) s (c .low-bit .ensures) (g .fourth))
+    omega (arith, siblings-fit 0 _ _ _ (c .low-bit .result) s (c .low-bit .ensures) (f .0) (f .1 .fourth))
 
 sub-left : tie.Need-sub-left Inv-loop μ-loop
 sub-left c = found (c .before) .1 .three
