@@ -45,10 +45,13 @@ extern "C" {
 #endif
 
 /* The version: 10,000 for each major number, 100 for each minor one, 1 for each patch. */
-#define NORI_VERSION 400
+#define NORI_VERSION 500
 
 /* The deepest zoom. */
 #define NORI_MAX_ZOOM 30
+
+/* The room for the longest key: a digit for each zoom. */
+#define NORI_MAX_DIGITS NORI_MAX_ZOOM
 
 /* The deepest zoom of the numbers of `to_id`: those of deeper ones would not fit 64 bits. */
 #define NORI_MAX_ID_ZOOM 29
@@ -246,10 +249,14 @@ NORI_NODISCARD uint8_t nori_flipy(uint32_t y, uint8_t z, uint32_t *row);
  * Refused: 1, 2. */
 NORI_NODISCARD uint8_t nori_yflip(uint32_t y, uint8_t z, uint32_t *row);
 
-/* The ancestor at zoom z - 1 - n. n counts the steps beyond the parent; the Rust's None is 0.
+/* The ancestor at zoom z - 1 - n, and by which quadkey digit each step to it was left. n counts
+ * the steps beyond the parent; the Rust's None is 0. digits holds count digits, 1 + n, as bytes
+ * 48 to 51, the deepest step's last, and zeros after them; where the call is refused it holds
+ * zeros only. The ancestor's key followed by the digits is the key of the tile asked about.
  * Refused: 1, 2, 3. */
 NORI_NODISCARD uint8_t nori_parent(uint32_t x, uint32_t y, uint8_t z, uint8_t n, uint32_t *tx,
-                                   uint32_t *ty, uint8_t *tz);
+                                   uint32_t *ty, uint8_t *tz,
+                                   uint8_t *digits /* NORI_MAX_DIGITS places */, uint8_t *count);
 
 /* The tiles of the target zoom inside a tile, each family clockwise by digits 0, 1, 3, 2. A
  * target of z or less gives the tile itself; the Rust's None is z + 1.

@@ -17,13 +17,25 @@ static void expect(int holds, const char *what)
 
 static void tiles(void)
 {
-    uint32_t x = 9, y = 9, version = 9;
-    uint8_t z = 9, order = 9;
+    uint32_t version = 9;
+    uint8_t order = 9;
     EXPECT(nori_version(&version) == 0 && version == NORI_VERSION);
-    EXPECT(nori_parent(3, 5, 3, 0, &x, &y, &z) == 0 && x == 1 && y == 2 && z == 2);
-    EXPECT(nori_parent(3, 5, 3, 3, &x, &y, &z) == NORI_NO_RELATIVE && x == 0 && y == 0 && z == 0);
     EXPECT(nori_check(8, 0, 3) == NORI_OFF_MAP);
     EXPECT(nori_cmp(3, 5, 3, 3, 6, 3, &order) == 0 && order == 0);
+}
+
+/* The digits fill their room: zeros stand after them, and everywhere where the call is refused. */
+static void parents(void)
+{
+    static const uint8_t steps[NORI_MAX_DIGITS] = {'1', '3'}, zeros[NORI_MAX_DIGITS];
+    uint8_t digits[NORI_MAX_DIGITS], z = 9, count = 9;
+    uint32_t x = 9, y = 9;
+    memset(digits, 0xff, sizeof digits);
+    EXPECT(nori_parent(3, 5, 3, 1, &x, &y, &z, digits, &count) == 0 && x == 0 && y == 1 && z == 1);
+    EXPECT(count == 2 && memcmp(digits, steps, sizeof digits) == 0);
+    memset(digits, 0xff, sizeof digits);
+    EXPECT(nori_parent(3, 5, 3, 3, &x, &y, &z, digits, &count) == NORI_NO_RELATIVE && x == 0 && y == 0 && z == 0);
+    EXPECT(count == 0 && memcmp(digits, zeros, sizeof digits) == 0);
 }
 
 static void keys(void)
@@ -46,7 +58,7 @@ static void deepest(void)
     const uint8_t zoom = NORI_MAX_ZOOM;
     const uint32_t side = (uint32_t)1 << zoom, last = side - 1;
     const uint64_t tiles = (((uint64_t)1 << (2 * zoom + 2)) - 1) / 3;
-    uint8_t key[NORI_MAX_ZOOM + 1], z = 9;
+    uint8_t key[NORI_MAX_DIGITS + 1], digits[NORI_MAX_DIGITS], z = 9, steps = 9;
     uint64_t number = 9, count = 9;
     uint32_t x = 9, y = 9;
     EXPECT(nori_check(last, last, zoom) == 0 && nori_check(last, last, zoom + 1) == NORI_ZOOM);
@@ -61,6 +73,9 @@ static void deepest(void)
     EXPECT(nori_quadkey2xyz(key, zoom, &x, &y, &z) == 0 && x == last && y == last && z == zoom);
     EXPECT(nori_quadkey2xyz(key, sizeof key, &x, &y, &z) == NORI_KEY_LENGTH);
     EXPECT(nori_xyz2quadkey(last, last, zoom, key, sizeof key, &count) == 0 && count == zoom);
+    memset(digits, 0xff, sizeof digits);
+    EXPECT(nori_parent(last, last, zoom, zoom - 1, &x, &y, &z, digits, &steps) == 0 && x == 0 && y == 0 && z == 0);
+    EXPECT(steps == NORI_MAX_DIGITS && memcmp(digits, key, sizeof digits) == 0);
 }
 
 static void lists(void)
@@ -108,6 +123,7 @@ static void lines(void)
 int main(void)
 {
     tiles();
+    parents();
     keys();
     deepest();
     lists();

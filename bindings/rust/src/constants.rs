@@ -31,6 +31,18 @@ pub fn version() -> u32 {
 /// ```
 pub const MAX_ZOOM: u8 = ffi::MAX_ZOOM;
 
+/// The most digits of a quadkey: one for each zoom.
+///
+/// # Examples
+/// ```
+/// use noripliers::Tile;
+/// use noripliers::constants::{MAX_DIGITS, MAX_ZOOM};
+///
+/// assert_eq!(Tile::new(0, 0, MAX_ZOOM)?.quadkey().len(), MAX_DIGITS);
+/// # Ok::<(), noripliers::Error>(())
+/// ```
+pub const MAX_DIGITS: usize = ffi::MAX_DIGITS;
+
 /// The deepest zoom whose tiles have a number of [`to_id`](crate::to_id): deeper ones would not fit
 /// 64 bits.
 ///

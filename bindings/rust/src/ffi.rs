@@ -1,10 +1,13 @@
 //! The functions of the archive, as bindings/c/noripliers.h declares them. Written by tools/bindings.
 
 /// The version: 10,000 for each major number, 100 for each minor one, 1 for each patch.
-pub const VERSION: u32 = 400;
+pub const VERSION: u32 = 500;
 
 /// The deepest zoom.
 pub const MAX_ZOOM: u8 = 30;
+
+/// The room for the longest key: a digit for each zoom.
+pub const MAX_DIGITS: usize = MAX_ZOOM as usize;
 
 /// The deepest zoom of the numbers of `to_id`: those of deeper ones would not fit 64 bits.
 pub const MAX_ID_ZOOM: u8 = 29;
@@ -132,7 +135,7 @@ unsafe extern "C" {
     pub safe fn nori_flipy(y: u32, z: u8, row: &mut u32) -> u8;
     /// The same as nori_flipy.
     pub safe fn nori_yflip(y: u32, z: u8, row: &mut u32) -> u8;
-    /// The ancestor at zoom z - 1 - n.
+    /// The ancestor at zoom z - 1 - n, and by which quadkey digit each step to it was left.
     pub safe fn nori_parent(
         x: u32,
         y: u32,
@@ -141,6 +144,8 @@ unsafe extern "C" {
         tx: &mut u32,
         ty: &mut u32,
         tz: &mut u8,
+        digits: &mut [u8; MAX_DIGITS],
+        count: &mut u8,
     ) -> u8;
     /// The tiles of the target zoom inside a tile, each family clockwise by digits 0, 1, 3, 2.
     pub unsafe fn nori_children(

@@ -2,7 +2,8 @@
 //! [`Error::OffMap`] where there is none; what else can refuse it is said with it.
 
 use crate::answer::{lend, never_refused, tiles, told, value};
-use crate::{Error, Tile, ffi, lent, tile};
+use crate::constants::MAX_DIGITS;
+use crate::{Error, Tile, ffi, lent, quadkey, tile};
 
 /// The least and the greatest column, and row, of a zoom. Refused by [`Error::Zoom`].
 ///
@@ -58,7 +59,40 @@ pub fn yflip(y: u32, z: u8) -> Result<u32, Error> {
 /// assert_eq!(parent(3, 5, 3, Some(3)), Err(Error::NoRelative));
 /// ```
 pub fn parent(x: u32, y: u32, z: u8, n: Option<u8>) -> Result<Tile, Error> {
-    tile::given(|tx, ty, tz| ffi::nori_parent(x, y, z, n.unwrap_or(0), tx, ty, tz))
+    ancestor(x, y, z, n, &mut [0; MAX_DIGITS], &mut 0)
+}
+
+/// The ancestor of [`parent`], and the quadkey digits of the steps to it, the deepest last: its
+/// quadkey followed by them is the tile's.
+///
+/// # Examples
+/// ```
+/// use noripliers::{Error, Tile, parent_with_digits, xyz2quadkey};
+///
+/// let (tile, digits) = parent_with_digits(3, 5, 3, Some(1))?;
+/// assert_eq!((tile, digits.as_str()), (Tile::new(0, 1, 1)?, "13"));
+/// assert_eq!(tile.quadkey() + &digits, xyz2quadkey(3, 5, 3)?);
+/// assert_eq!(parent_with_digits(3, 5, 3, None)?, (Tile::new(1, 2, 2)?, "3".to_owned()));
+/// assert_eq!(parent_with_digits(3, 5, 3, Some(3)), Err(Error::NoRelative));
+/// # Ok::<(), Error>(())
+/// ```
+pub fn parent_with_digits(x: u32, y: u32, z: u8, n: Option<u8>) -> Result<(Tile, String), Error> {
+    let (mut digits, mut count) = ([0; MAX_DIGITS], 0);
+    let tile = ancestor(x, y, z, n, &mut digits, &mut count)?;
+    Ok((tile, quadkey::text(digits[..count.into()].to_vec())))
+}
+
+/// The ancestor, and through the last two the digits of the steps to it and their count.
+fn ancestor(
+    x: u32,
+    y: u32,
+    z: u8,
+    n: Option<u8>,
+    digits: &mut [u8; MAX_DIGITS],
+    count: &mut u8,
+) -> Result<Tile, Error> {
+    let n = n.unwrap_or(0);
+    tile::given(|tx, ty, tz| ffi::nori_parent(x, y, z, n, tx, ty, tz, digits, count))
 }
 
 /// The descendants at a zoom, each family clockwise: digits 0, 1, 3, 2. `None` is the next zoom; a

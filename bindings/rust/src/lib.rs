@@ -27,8 +27,8 @@
 //! - The methods of its traits `TileLike`, `TileParent` and `TileChildren1` are the tile's own.
 //! - What needs a sine or a logarithm, and what reads or prints text, is not there.
 //!
-//! [`Area`] and [`form`] are not in utiles. [`lent`] has the calls that write to memory of the
-//! caller's own.
+//! [`Area`], [`form`] and [`parent_with_digits`] are not in utiles. [`lent`] has the calls that write
+//! to memory of the caller's own.
 //!
 //! # Panics and the stack
 //!

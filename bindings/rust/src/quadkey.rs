@@ -254,6 +254,6 @@ impl<'a> TryFrom<&'a str> for QuadkeyRef<'a> {
     }
 }
 
-fn text(digits: Vec<u8>) -> String {
+pub(crate) fn text(digits: Vec<u8>) -> String {
     digits.into_iter().map(char::from).collect()
 }

@@ -363,6 +363,25 @@ impl Tile {
         fns::parent(self.x, self.y, self.z, n)
     }
 
+    /// The ancestor of [`Tile::parent`], and the quadkey digits of the steps to it, the deepest
+    /// last: its quadkey followed by them is the tile's.
+    ///
+    /// # Examples
+    /// ```
+    /// use noripliers::{Error, Tile};
+    ///
+    /// let tile = Tile::new(3, 5, 3)?;
+    /// let (parent, digits) = tile.parent_with_digits(None)?;
+    /// assert_eq!((parent, digits.as_str()), (Tile::new(1, 2, 2)?, "3"));
+    /// assert_eq!(parent.quadkey() + &digits, tile.quadkey());
+    /// assert_eq!(tile.parent_with_digits(Some(2))?, (Tile::root(), "213".to_owned()));
+    /// assert_eq!(tile.parent_with_digits(Some(3)), Err(Error::NoRelative));
+    /// # Ok::<(), Error>(())
+    /// ```
+    pub fn parent_with_digits(&self, n: Option<u8>) -> Result<(Self, String), Error> {
+        fns::parent_with_digits(self.x, self.y, self.z, n)
+    }
+
     /// The ancestors, from the parent to the root.
     ///
     /// # Examples

@@ -1,1 +1,2 @@
+pub mod Ancestor
 pub mod Limits

@@ -1,12 +1,15 @@
 // What the exported calls of fns.rs on the tiles around a tile do: each asks the library and hands the answer on in numbers.
+use constants::MAX_DIGITS;
 use fns::LimitsAnswer;
 use tile::OptionU8;
 ghost use mathlib.Core.Path.{_≡_};
 ghost use Prim.Native.Nat.{_+_};
 ghost use Rattle.c_give.specs.Exported.{answered, asByte, answeredIn, never};
+ghost use Rattle.c_fns.specs.Ancestor.{ancestorAt};
 ghost use Rattle.c_fns.specs.Limits.{limitsAt};
 ghost use Rattle.children.specs.Children.{childrenOf, clockwise, zOrder};
-ghost use Rattle.fns.specs.Fns.{bbox2zoomOf, flipyOf, isTile, minMaxCase, minMaxOf, parentOf};
+ghost use Rattle.fns.specs.Fns.{bbox2zoomOf, flipyOf, isTile, minMaxCase, minMaxOf};
+ghost use Rattle.fns.specs.Parent.{parentGiven};
 ghost use Rattle.neighbors.specs.Neighbors.{neighborsWritten};
 ghost use Rattle.neighbors.specs.declared.Seam.the-variants.{Cut, Wrapped};
 ghost use Rattle.siblings.specs.Siblings.{siblingsWritten};
@@ -47,10 +50,32 @@ pub fn flipy(y: u32, z: u8, row: &mut u32) -> u8
     c_give::u32_number(fns::flipy(y, z), row)
 }
 
-pub fn parent(x: u32, y: u32, z: u8, n: u8, tx: &mut u32, ty: &mut u32, tz: &mut u8) -> u8
-    ensures { λ r. ⌜ answered r (tileAt (now (tx .exit)) (now (ty .exit)) (now (tz .exit))) ≡ parentOf x y z n ⌝ }
+// The places are lent on: what is handed back by value would be copied here once more.
+pub fn parent(
+    x: u32,
+    y: u32,
+    z: u8,
+    n: u8,
+    tx: &mut u32,
+    ty: &mut u32,
+    tz: &mut u8,
+    digits: &mut [u8; MAX_DIGITS],
+    count: &mut u8,
+) -> u8
+    ensures { λ r. ⌜ answered r
+        (ancestorAt (tileAt (now (tx .exit)) (now (ty .exit)) (now (tz .exit))) (now (digits .exit)) (now (count .exit)))
+        ≡ parentGiven x y z n ⌝ }
 {
-    c_give::tile(fns::parent(x, y, z, OptionU8::Some(n)), tx, ty, tz)
+    *tx = 0;
+    *ty = 0;
+    *tz = 0;
+    *digits = [0; MAX_DIGITS];
+    *count = 0;
+    let number = fns::steps::parent(x, y, z, n, tx, ty, tz, digits);
+    if number == 0 {
+        *count = 1 + n;
+    }
+    number
 }
 
 pub fn children(x: u32, y: u32, z: u8, zoom: u8, out: &mut [u64], count: &mut u64) -> u8

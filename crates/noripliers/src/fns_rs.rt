@@ -1,12 +1,15 @@
 // The tiles around a tile, and the numbers that stand for tiles: the calls of fns.rs.
+use constants::MAX_DIGITS;
 ghost use mathlib.Core.Path.{_≡_};
 ghost use Prim.Native.Nat.{_+_};
+ghost use Rattle.c_fns.specs.Ancestor.{ancestorAt};
 ghost use Rattle.c_fns.specs.Limits.{limitsAt};
 ghost use Rattle.c_give.specs.Exported.{answered, asByte, answeredIn, never};
 ghost use Rattle.c_ids.specs.OffsetZoom.{offsetZoomAt};
 ghost use Rattle.children.specs.Children.{childrenOf, clockwise, zOrder};
 ghost use Rattle.errors.specs.Answer.{answer};
-ghost use Rattle.fns.specs.Fns.{bbox2zoomOf, flipyOf, isTile, minMaxOf, parentOf};
+ghost use Rattle.fns.specs.Fns.{bbox2zoomOf, flipyOf, isTile, minMaxOf};
+ghost use Rattle.fns.specs.Parent.{parentGiven};
 ghost use Rattle.ids.specs.Entry.{entryOf, entryTileOf};
 ghost use Rattle.ids.specs.Id.{fromIdOf, toIdOf};
 ghost use Rattle.ids.specs.Rmid.{fromRmidOf, offsetZoomOf, toRmidOf};
@@ -51,7 +54,9 @@ pub extern "C" fn nori_yflip(y: u32, z: u8, row: &mut u32) -> u8
     c_fns::flipy(y, z, row)
 }
 
-// The ancestor at zoom z - 1 - n. n counts the steps beyond the parent; the Rust's None is 0.
+// The ancestor at zoom z - 1 - n, and by which quadkey digit each step to it was left. n counts the steps beyond the parent; the
+// Rust's None is 0. digits holds count digits, 1 + n, as bytes 48 to 51, the deepest step's last, and zeros after them; where the
+// call is refused it holds zeros only. The ancestor's key followed by the digits is the key of the tile asked about.
 // Refused: 1, 2, 3.
 #[no_mangle]
 pub extern "C" fn nori_parent(
@@ -62,10 +67,14 @@ pub extern "C" fn nori_parent(
     tx: &mut u32,
     ty: &mut u32,
     tz: &mut u8,
+    digits: &mut [u8; MAX_DIGITS],
+    count: &mut u8,
 ) -> u8
-    ensures { λ r. ⌜ answered r (tileAt (now (tx .exit)) (now (ty .exit)) (now (tz .exit))) ≡ parentOf x y z n ⌝ }
+    ensures { λ r. ⌜ answered r
+        (ancestorAt (tileAt (now (tx .exit)) (now (ty .exit)) (now (tz .exit))) (now (digits .exit)) (now (count .exit)))
+        ≡ parentGiven x y z n ⌝ }
 {
-    c_fns::parent(x, y, z, n, tx, ty, tz)
+    c_fns::parent(x, y, z, n, tx, ty, tz, digits, count)
 }
 
 // The tiles of the target zoom inside a tile, each family clockwise by digits 0, 1, 3, 2.

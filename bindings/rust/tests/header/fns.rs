@@ -5,6 +5,8 @@ use crate::tally::Tally;
 use crate::tile::NO_TILES;
 
 type Xyz = (u32, u32, u8);
+/// A tile, the digits of the steps to it, and their count.
+type Ancestor = (Xyz, [u8; DIGITS], u8);
 type Around = unsafe extern "C" fn(u32, u32, u8, *mut u64, usize, &mut u64) -> u8;
 
 pub fn run(tally: &mut Tally) {
@@ -74,28 +76,49 @@ fn plain(tally: &mut Tally) {
 }
 
 fn parents(tally: &mut Tally) {
-    let call =
-        |x, y, z, n| move |v: &mut Xyz| ffi::nori_parent(x, y, z, n, &mut v.0, &mut v.1, &mut v.2);
-    tally.gives("nori_parent", call(3, 5, 3, 0), (1, 2, 2));
-    tally.gives("nori_parent", call(3, 5, 3, 2), (0, 0, 0));
-    tally.gives(
-        "nori_parent",
-        call(SIDE / 2, 3, DEEPEST, DEEPEST - 2),
+    let call = |x, y, z, n| {
+        move |v: &mut Ancestor| {
+            let ((tx, ty, tz), digits, count) = v;
+            ffi::nori_parent(x, y, z, n, tx, ty, tz, digits, count)
+        }
+    };
+    let tiles = [
+        (3, 5, 3),
+        (4, 1, 3),
         (1, 0, 1),
-    );
-    for (x, y) in CORNERS {
-        let parent = (x / 2, y / 2, DEEPEST - 1);
-        tally.gives("nori_parent", call(x, y, DEEPEST, 0), parent);
-        tally.gives("nori_parent", call(x, y, DEEPEST, DEEPEST - 1), (0, 0, 0));
-        tally.refuses("nori_parent", call(x, y, DEEPEST, DEEPEST), 3);
+        (SIDE / 2, 3, DEEPEST),
+        (0x2aaa_aaaa, 0x1999_9999, DEEPEST),
+        (0x0f0f_0f0f, 0x1234_5678, DEEPEST - 1),
+    ];
+    let corners = CORNERS.map(|(x, y)| (x, y, DEEPEST));
+    for (x, y, z) in tiles.into_iter().chain(corners) {
+        for n in 0..z {
+            tally.gives("nori_parent", call(x, y, z, n), ancestor(x, y, z, n));
+        }
+        for n in [z, z + 1, 255] {
+            tally.refuses("nori_parent", call(x, y, z, n), 3);
+        }
     }
-    for (x, y, z, n) in [(3, 5, 3, 3), (3, 5, 3, 255), (0, 0, 0, 0)] {
-        tally.refuses("nori_parent", call(x, y, z, n), 3);
-    }
+    let at = |digits: &[u8]| std::array::from_fn(|i| digits.get(i).copied().unwrap_or(0));
+    tally.gives("nori_parent", call(3, 5, 3, 0), ((1, 2, 2), at(b"3"), 1));
+    tally.gives("nori_parent", call(3, 5, 3, 1), ((0, 1, 1), at(b"13"), 2));
+    tally.gives("nori_parent", call(3, 5, 3, 2), ((0, 0, 0), at(b"213"), 3));
+    tally.refuses("nori_parent", call(0, 0, 0, 0), 3);
     for (x, y, z, number) in NO_TILES {
         tally.refuses("nori_parent", call(x, y, z, 0), number);
         tally.refuses("nori_parent", call(x, y, z, 255), number);
     }
+}
+
+/// The digits are the last 1 + n of the tile's key, which has one for each bit of column and row.
+fn ancestor(x: u32, y: u32, z: u8, n: u8) -> Ancestor {
+    let digit = |bit| b'0' + (x >> bit & 1) as u8 + 2 * (y >> bit & 1) as u8;
+    let key: Vec<u8> = (0..z).rev().map(digit).collect();
+    let steps = 1 + n;
+    let mut digits = key[usize::from(z - steps)..].to_vec();
+    digits.resize(DIGITS, 0);
+    let tile = (x >> steps, y >> steps, z - steps);
+    (tile, digits.try_into().expect("no more digits"), steps)
 }
 
 fn numbers(tally: &mut Tally) {

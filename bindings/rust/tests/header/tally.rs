@@ -35,6 +35,15 @@ impl Fill for f64 {
     }
 }
 
+impl<const N: usize> Fill for [u8; N]
+where
+    Self: Default,
+{
+    fn fill(seed: u64) -> Self {
+        [u8::fill(seed); N]
+    }
+}
+
 impl Fill for () {
     fn fill(_: u64) {}
 }

@@ -33,6 +33,13 @@ fn relatives(random: &mut Random, (x, y, z): (u32, u32, u8)) {
         "{tile} {n:?}"
     );
     assert_eq!(
+        tile.parent_with_digits(n)
+            .ok()
+            .map(|(ancestor, digits)| ancestor.quadkey() + &digits),
+        rust_tile.parent(n).map(|_| rust_tile.quadkey()),
+        "{tile} {n:?}"
+    );
+    assert_eq!(
         all_theirs(tile.iter_parents().collect()),
         rust_tile.iter_parents().collect::<Vec<_>>()
     );
