@@ -1,4 +1,5 @@
 // Prints the plates of document 01 that are proved, each worked out by the library. `vectors` checks the others.
+use constants::MAX_DIGITS;
 use errors::Count;
 use errors::U32Answer;
 use errors::U64Answer;
@@ -33,12 +34,19 @@ fn key_and_numbers(name: &[u8], x: u32, y: u32, z: u8) {
 
 fn ancestors() {
     say(b"parent of (3,5,3): ");
-    say_tile(fns::parent(3, 5, 3, OptionU8::None));
+    say_above(OptionU8::None);
     say(b"; n = 2: ");
-    say_tile(fns::parent(3, 5, 3, OptionU8::Some(2)));
+    say_above(OptionU8::Some(2));
     say(b"; n = 3: ");
-    say_tile(fns::parent(3, 5, 3, OptionU8::Some(3)));
+    say_above(OptionU8::Some(3));
     say(b"\n");
+}
+
+// The tile alone: the plate says nothing of the steps' digits.
+fn say_above(n: OptionU8) {
+    let up = fns::parent(3, 5, 3, n);
+    let tile = up.tile;
+    say_tile(tile);
 }
 
 fn beside() {
@@ -160,7 +168,7 @@ fn say_length(answer: BoxAnswer) {
 }
 
 fn say_key(x: u32, y: u32, z: u8) {
-    let mut key = [0u8; 30];
+    let mut key = [0u8; MAX_DIGITS];
     let n = written(quadkey::xyz2quadkey(x, y, z, &mut key));
     say_front(&key, n);
 }

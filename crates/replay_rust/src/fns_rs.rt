@@ -1,13 +1,17 @@
 // Replays the calls of fns.rs, which are those of `fns`, `ids`, `children` and `neighbors` here.
 use fns::LimitsAnswer;
+use fns::ParentAnswer;
 use ids::OffsetZoomAnswer;
 use replay::answers;
 use replay::args;
 use replay::entries::BLANK;
 use replay::lists;
 use replay::names;
+use replay::parse;
+use replay::parts;
 use tile::OptionU8;
 use tile::Tile;
+use tile::TileAnswer;
 
 pub fn replayed(name: &[u8], given: &[u64], want: &[u64]) -> bool {
     let t = args::tile(given, 0);
@@ -110,9 +114,42 @@ fn bbox2zoom(given: &[u64], want: &[u64]) -> bool {
 fn of_tile_and_zooms(name: &[u8], t: Tile, n: OptionU8, out: &mut [u64], want: &[u64]) -> bool {
     let Tile { x, y, z } = t;
     match names::index(name, b"parent children children_zorder") {
-        0 => answers::same_tile(fns::parent(x, y, z, n), want),
+        0 => same_parent(fns::parent(x, y, z, n), want),
         1 => lists::same_list(children::children(x, y, z, n, out), 0, out, want),
         2 => lists::same_list(children::children_zorder(x, y, z, n, out), 0, out, want),
         _ => false,
     }
+}
+
+// The list says the ancestor and the digits of the steps, their count first, and nothing of the room behind them: it is to be zeros, and
+// all of it where the call is refused.
+fn same_parent(up: ParentAnswer, want: &[u64]) -> bool {
+    let digits = up.digits;
+    let count = up.count as usize;
+    let tile = up.tile;
+    match tile {
+        TileAnswer::Found(t) => {
+            let values = [t.x as u64, t.y as u64, t.z as u64, count as u64];
+            lists::accepted(&values, count, want)
+                && zeros_behind(&digits, parts::numbers(want, 5, count))
+        }
+        TileAnswer::Refused(why) => {
+            answers::refused(why, 4, want) && count == 0 && zeros_behind(&digits, &[])
+        }
+    }
+}
+
+// Whether the room has place for these digits, begins with them, and is zeros behind them.
+fn zeros_behind(room: &[u8], digits: &[u64]) -> bool {
+    if digits.len() > room.len() {
+        return false;
+    }
+    let mut i = 0;
+    while i < room.len() {
+        if parse::wide(room[i]) != args::number(digits, i) {
+            return false;
+        }
+        i += 1;
+    }
+    true
 }

@@ -132,7 +132,9 @@ fn entry(t: Text, n: u64) -> Text {
 }
 
 fn above(x: u32, y: u32, z: u8) -> Text {
-    text::of_tile(text::none(), fns::parent(x, y, z, OptionU8::None))
+    let up = fns::parent(x, y, z, OptionU8::None);
+    let tile = up.tile;
+    text::of_tile(text::none(), tile)
 }
 
 pub fn from_the_bottom(before: Tally) -> Tally {

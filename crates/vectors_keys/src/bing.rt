@@ -137,10 +137,11 @@ fn parent(t: Tally, key: &[u8], says: &[u8]) -> Tally {
     tally::asked(b"parent of ");
     io::write_all(1, key);
     let gives = match quadkey::quadkey2xyz(key) {
-        TileAnswer::Found(at) => text::key_of(
-            text::none(),
-            fns::parent(at.x, at.y, at.z, OptionU8::None),
-        ),
+        TileAnswer::Found(at) => {
+            let up = fns::parent(at.x, at.y, at.z, OptionU8::None);
+            let tile = up.tile;
+            text::key_of(text::none(), tile)
+        }
         TileAnswer::Refused(why) => text::refusal(text::none(), why),
     };
     tally::told(t, says, gives)

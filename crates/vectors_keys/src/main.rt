@@ -1,9 +1,10 @@
-// Checks the library against the Bing Maps page's examples and what the papers say of keys and of zoom 30: a line for each says what the
-// source says and what the library gives. The last line counts them, and those that differ.
+// Checks the library against the Bing Maps page's examples and what the papers say of keys, of zoom 30 and of steps up: a line for each
+// says what the source says and what the library gives. The last line counts them, and those that differ.
 mod bing;
 mod deepest;
 mod keys;
 mod pictures;
+mod steps;
 
 use vectors_lines::tally;
 
@@ -21,5 +22,7 @@ fn main() {
     t = keys::digits(t);
     t = deepest::keys(t);
     t = deepest::numbers(t);
+    t = steps::of_the_page(t);
+    t = steps::of_the_longest(t);
     tally::end(t);
 }

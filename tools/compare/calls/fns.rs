@@ -40,7 +40,7 @@ fn level(tally: &mut Tally, random: &mut Random, (x, y, z): Xyz) {
     tally.call("yflip", (y, z), value(u32::MAX, |row| nori_yflip(y, z, row)), || (0, rust::yflip(y, z)));
 }
 
-// The Rust's None is refusal 3. As the number of steps None is 0.
+// The Rust's None is refusal 3. As the number of steps None is 0. The Rust gives the digits of the steps only as the end of a key.
 fn parent(tally: &mut Tally, random: &mut Random, t: Xyz) {
     let (x, y, z) = t;
     let n = match random.below(4) {
@@ -48,10 +48,22 @@ fn parent(tally: &mut Tally, random: &mut Random, t: Xyz) {
         1 => Some(z),
         _ => Some(random.below(u64::from(z) + 1) as u8),
     };
-    let ours = placed(|tx, ty, tz| nori_parent(x, y, z, n.unwrap_or(0), tx, ty, tz));
+    let beyond = n.unwrap_or(0);
+    let (mut digits, mut count) = ([u8::MAX; MAX_DIGITS], u8::MAX);
+    let ours = placed(|tx, ty, tz| nori_parent(x, y, z, beyond, tx, ty, tz, &mut digits, &mut count));
     tally.call("parent", (t, n), ours, || match rust::parent(x, y, z, n) {
         Some(t) => (0, (t.x, t.y, t.z)),
         None => (3, (0, 0, 0)),
+    });
+    tally.call("parent, digits beside xyz2quadkey", (t, n), (digits, count), || {
+        let mut ending = [0; MAX_DIGITS];
+        if rust::parent(x, y, z, n).is_none() {
+            return (ending, 0);
+        }
+        let key = rust::xyz2quadkey(x, y, z);
+        let taken = &key.as_bytes()[usize::from(z - 1 - beyond)..];
+        ending[..taken.len()].copy_from_slice(taken);
+        (ending, 1 + beyond)
     });
 }
 

@@ -2,7 +2,7 @@
 use utiles_core::{self as rust, Tile};
 
 use crate::paper::{self, COMPARED, DEEPEST, RMID_END};
-use crate::record::{List, caught, listed, of_tile, of_tiles, xyz};
+use crate::record::{List, bytes, caught, listed, of_tile, of_tiles, xyz};
 use crate::sample::{self, Random, Xyz};
 use crate::words::{self, CLOCKWISE, ZORDER};
 
@@ -40,6 +40,7 @@ fn levels(list: &mut List) {
     }
 }
 
+// Every ancestor of every small tile and of two random tiles of each deeper zoom, and of the others some.
 fn parents(list: &mut List) {
     for (i, t) in sample::small().into_iter().enumerate() {
         (0..=t.2).for_each(|n| parent(list, t, Some(n)));
@@ -59,21 +60,27 @@ fn parents(list: &mut List) {
         if z == DEEPEST {
             [0, z / 2, z - 1, z, 255].into_iter().for_each(|n| parent(list, t, Some(n)));
         }
+        if i % 8 > 5 {
+            (0..=31).chain([255]).for_each(|n| parent(list, t, Some(n)));
+        }
     }
     for t in sample::beyond() {
-        [None, Some(255)].into_iter().for_each(|n| parent(list, t, n));
+        [None, Some(0), Some(31), Some(255)].into_iter().for_each(|n| parent(list, t, n));
     }
 }
 
-// The Rust's None is refusal 3. With more steps than the zoom it passes zero.
+// The Rust's None is refusal 3. With more steps than the zoom it passes zero. It answers the tile alone: the digits of the steps are by
+// document 02's words whether it is run or not.
 fn parent(list: &mut List, t: Xyz, n: Option<u8>) {
     let args = [xyz(t), vec![n.map_or(NONE, u64::from)]].concat();
     let refusal = paper::parent(t, n);
-    if paper::tile(t) == 0 && n.unwrap_or(0) <= t.2 {
-        let answer = || rust::parent(t.0, t.1, t.2, n).map(of_tile).ok_or(3);
-        list.compare("parent", &args, (refusal, 3), t.2, answer, || xyz(words::parent(t, n.unwrap_or(0))));
+    let extra = n.unwrap_or(0);
+    let with_steps = |tile: Vec<u64>| [tile, bytes(&words::steps(t, extra))].concat();
+    if paper::tile(t) == 0 && extra <= t.2 {
+        let answer = || rust::parent(t.0, t.1, t.2, n).map(of_tile).map(with_steps).ok_or(3);
+        list.compare("parent", &args, (refusal, 4), t.2, answer, || with_steps(xyz(words::parent(t, extra))));
     } else {
-        list.refuse("parent", &args, refusal, 3);
+        list.refuse("parent", &args, refusal, 4);
     }
 }
 

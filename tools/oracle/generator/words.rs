@@ -44,6 +44,12 @@ pub fn parent((x, y, z): Xyz, n: u8) -> Xyz {
     (x >> (1 + n), y >> (1 + n), z - 1 - n)
 }
 
+/// The digits of the 1 + n steps to that ancestor, deepest last: what stands behind the ancestor's key in the tile's, so its end.
+pub fn steps(t: Xyz, n: u8) -> Vec<u8> {
+    let key = key(t);
+    key[key.len() - 1 - usize::from(n)..].to_vec()
+}
+
 /// The order in which the four children of a tile are listed.
 pub type Family = [(u32, u32); 4];
 /// Digits 0, 1, 3, 2.
