@@ -65,6 +65,19 @@ inline std::vector<Tile> children_input(const std::vector<Tile>& tiles, size_t n
   return v;
 }
 
+// A tile of zoom 29 inside each tile. The bits that column and row gain are mixed from the workload's number, so that the steps up vary.
+// `parent+28` goes all the way up from there: its answers are all the root, which adds 0 to the checksum.
+inline std::vector<Tile> parent_input(const List& rmids) {
+  std::vector<Tile> v;
+  for (u64 r : rmids) {
+    Tile t = rmid2xyz(r);
+    u32 down = TO_ID_DEEPEST - t.z, low = (1u << down) - 1;
+    u64 mixed = r * 0x9E3779B97F4A7C15ull;
+    v.push_back({t.x << down | ((u32)mixed & low), t.y << down | ((u32)(mixed >> 32) & low), (u8)TO_ID_DEEPEST});
+  }
+  return v;
+}
+
 template <class P>
 void time_calls(const char* peer, const Job& j, P p) {
   const List& rmids = j.as;
@@ -117,6 +130,15 @@ void time_calls(const char* peer, const Job& j, P p) {
     for (Tile t : tiles) h = fold_tile(h, p.parent(t, t.z / 2));
     return h;
   });
+  std::vector<Tile> deep = parent_input(rmids);
+  for (int beyond : {0, 6, 28}) {
+    std::string op = "parent+" + std::to_string(beyond);
+    time_one(peer, j, op.c_str(), n, [&] {
+      u64 h = 0;
+      for (Tile t : deep) h = fold_tile(h, p.parent(t, beyond));
+      return h;
+    });
+  }
   time_entries(peer, j, "neighbors", p, tiles, [&](Tile t, u64* out) { return p.neighbors(t, out); });
   for (int d : {1, 4, 6}) {
     std::string op = "children+" + std::to_string(d);

@@ -60,9 +60,12 @@ struct ProvedCalls {
     u8 r = nori_xyz2quadkey(t.x, t.y, t.z, (u8*)o, NORI_MAX_ZOOM, &n);
     return accepted(r, n);
   }
+  // Up to 0.4.0 the call ended before the digits. On x86-64 a function looks at no argument that it does not name, and the caller takes
+  // them away, so such a build is called the same way, and is handed two that it leaves alone.
   Tile parent(Tile t, u32 n) {
     Tile p;
-    return nori_parent(t.x, t.y, t.z, n, &p.x, &p.y, &p.z) ? NO_TILE : p;
+    u8 digits[NORI_MAX_DIGITS], count;
+    return nori_parent(t.x, t.y, t.z, n, &p.x, &p.y, &p.z, digits, &count) ? NO_TILE : p;
   }
   size_t neighbors(Tile t, u64* o) {
     u64 n;

@@ -174,12 +174,27 @@ fn short_calls(
             fold_tile(h, x, y, z)
         })
     });
-    one("parent", &|| {
-        tiles.iter().fold(0, |h, t| {
-            let p = parent(t.x, t.y, t.z, Some(t.z / 2)).unwrap_or(Tile { x: 0, y: 0, z: 99 });
-            fold_tile(h, p.x, p.y, p.z)
-        })
-    });
+    let ancestor = |h, t: &Tile, n| {
+        let p = parent(t.x, t.y, t.z, Some(n)).unwrap_or(Tile { x: 0, y: 0, z: 99 });
+        fold_tile(h, p.x, p.y, p.z)
+    };
+    one("parent", &|| tiles.iter().fold(0, |h, t| ancestor(h, t, t.z / 2)));
+    let deep = parent_input(&j.entries);
+    for beyond in [0, 6, 28] {
+        one(&format!("parent+{beyond}"), &|| deep.iter().fold(0, |h, t| ancestor(h, t, beyond)));
+    }
+}
+
+/// A tile of zoom 29 inside each tile, as in the C++ runners.
+fn parent_input(entries: &[u64]) -> Vec<Tile> {
+    let inside = |&entry: &u64| {
+        let t = tile_of(entry);
+        let down = 29 - t.z;
+        let low = (1 << down) - 1;
+        let mixed = entry.wrapping_mul(0x9E37_79B9_7F4A_7C15);
+        Tile { x: t.x << down | (mixed as u32 & low), y: t.y << down | ((mixed >> 32) as u32 & low), z: 29 }
+    };
+    entries.iter().map(inside).collect()
 }
 
 fn long_calls(j: &Job) {
