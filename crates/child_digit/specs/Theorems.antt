@@ -40,7 +40,8 @@ two-bits : (k x y : ℕ) → let q = 4 * k + (2 * (y % 2) + x % 2) in (q % 2 ≡
 two-bits k x y = (omega arith, omega arith)
 
 -- so it is told by the last digit of the code alone
-pub told-by-the-code : (q : ℕ) → TileNumber mortonOf q → 1 < q → getD (parentGiven (q % 2) (q / 2 % 2) 1 0 .value .digits) 0 0 ≡ digitOf (mortonTile q)
+pub told-by-the-code : (q : ℕ) → TileNumber mortonOf q → 1 < q
+    → getD (parentGiven (q % 2) (q / 2 % 2) 1 0 .value .digits) 0 0 ≡ digitOf (mortonTile q)
 told-by-the-code q n h =
     let t = n .tile in
     let z = below-the-root t (rw (n .number) h) in

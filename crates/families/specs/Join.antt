@@ -6,7 +6,7 @@ use lib.Dec.{leb, ltb, eqb}
 use lib.ListN.{length, getD}
 use Rattle.constants.specs.Limits.{maxZoom}
 
--- the list begins with the four Morton codes of one family, the first of them from `from` on. Quads rise, so the first and the fourth
+-- the list begins with the four Morton codes of one family, the first of them from `from` on. The codes rise, so the first and the fourth
 -- decide.
 unfoldable pub fourFrom : ℕ → List ℕ → Bool
 fourFrom from l = leb 4 (length l) && (leb from (getD l 0 0) && (eqb (getD l 0 0 % 4) 0 && eqb (getD l 0 0 + 3) (getD l 3 0)))

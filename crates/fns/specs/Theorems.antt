@@ -125,7 +125,8 @@ pub record ChildBy (byte : ℕ) (s p : Tile) : Type 0 where
   pub column : s .x ≡ 2 * p .x + bit (byte - 48) 0
   pub row : s .y ≡ 2 * p .y + bit (byte - 48) 1
 
--- "by which quadkey digit each step was left": step k goes from the tile k zooms up to the one above it, and its digit is the k-th from the end
+-- "by which quadkey digit each step was left": step k goes from the tile k zooms up to the one above it. Its digit is the k-th from the
+-- end, counted from 0
 pub each-digit-is-the-child-that-was-left : (x y z n k : ℕ) → parentGiven x y z n .number ≡ 0 → k ≤ n
     → ChildBy (getD (parentGiven x y z n .value .digits) (n - k) 0)
     (tileAt (x / 2 ^ k) (y / 2 ^ k) (z - k)) (tileAt (x / 2 ^ (1 + k)) (y / 2 ^ (1 + k)) (z - 1 - k))
@@ -134,7 +135,7 @@ each-digit-is-the-child-that-was-left x y z n k e h =
     let g : n - k < a .count = rw (s .2 .steps) (omega arith) in
     let b : getD (a .digits) (n - k) 0 ≡ 48 + digitAt x y k =
     sym (getD-take (a .count) (a .digits) (n - k) 0 g) ∙ (ap (λ (l : List ℕ). getD l (n - k) 0) (s .2 .taken) ∙ digit) in
-    subst (λ (byte : ℕ). ChildBy byte (tileAt (x / 2 ^ k) (y / 2 ^ k) (z - k)) (tileAt (x / 2 ^ (1 + k)) (y / 2 ^ (1 + k)) (z - 1 - k))) (sym b)
+    subst (λ (byte : ℕ). ChildBy byte from above-it) (sym b)
     (record {
       zoom = omega (arith, s .1);
       column = rw (above x, add-sub-cancel-left 48 (digitAt x y k), div-one (digitAt x y k)) (omega arith);
@@ -143,6 +144,12 @@ each-digit-is-the-child-that-was-left x y z n k e h =
   where
     a : Ancestor
     a = parentGiven x y z n .value
+
+    from : Tile
+    from = tileAt (x / 2 ^ k) (y / 2 ^ k) (z - k)
+
+    above-it : Tile
+    above-it = tileAt (x / 2 ^ (1 + k)) (y / 2 ^ (1 + k)) (z - 1 - k)
 
     above : (c : ℕ) → c / 2 ^ (1 + k) ≡ c / 2 ^ k / 2
     above c = let f : 1 + k ≡ k + 1 = omega arith in rw f (sym (shr-shr c k 1))
@@ -162,7 +169,8 @@ pub the-digits-under-any-root : (x y z n w : ℕ) → OnMap x y z → n < w → 
     → (parentGiven (x % 2 ^ w) (y % 2 ^ w) w n .number ≡ 0)
     × (parentGiven (x % 2 ^ w) (y % 2 ^ w) w n .value .digits ≡ parentGiven x y z n .value .digits)
 the-digits-under-any-root x y z n w m h l =
-    let u : OnMap (x % 2 ^ w) (y % 2 ^ w) w = record { zoom = omega (arith, m .zoom); column = mod-lt x (pow-pos w); row = mod-lt y (pow-pos w) } in
+    let d : w ≤ maxZoom = omega (arith, m .zoom) in
+    let u : OnMap (x % 2 ^ w) (y % 2 ^ w) w = record { zoom = d; column = mod-lt x (pow-pos w); row = mod-lt y (pow-pos w) } in
     let k = key-low 48 (x / 2 ^ w) (y / 2 ^ w) w (x % 2 ^ w) (y % 2 ^ w) (1 + n) (omega arith) in
     let k = rw (div-add-mod' x (2 ^ w), div-add-mod' y (2 ^ w)) at k in
     let g : n < z = omega arith in

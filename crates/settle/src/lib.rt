@@ -105,8 +105,8 @@ fn joined(locations: &[u64], count: usize, k: u64, m: u8) -> Top
     }
 }
 
-// Whether k and the three locations below it are the children of one tile, and deeper than zoom m. Four tiles of one zoom in a row are found
-// by comparing first, and are seldom found; they are one family where k is left by the last digit.
+// Whether k and the three locations below it are the children of one tile, and deeper than zoom m. Four tiles of one zoom in a row are
+// looked for first, and are seldom there; they are one family where k is left by the last digit.
 pub fn family(locations: &[u64], count: usize, k: u64, m: u8) -> bool
     requires { ⌜ Stand (now locations) count k ⌝ }
     ensures { λ r. ⌜ r ≡ true ↔ ((p : Tile) × Family m (tiles (now (locations .entry))) count (locationTile k) p) ⌝ }
