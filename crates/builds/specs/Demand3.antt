@@ -74,7 +74,7 @@ abbrev pub entriesNamed : Build → ℕ → Operand → List ℕ
 entriesNamed build k (own list) = list
 entriesNamed build k (earlier i) = settledEntries (setNamed build k (earlier i))
 
--- the number that came back of call k is the lowest that applies to the lists named and to the memory lent
+-- the number that came back of call k is the first that applies to the lists named and to the memory lent
 abbrev pub RefusedByWords : Build → ℕ → Type 0
 RefusedByWords build k =
     let c = callAt build k in

@@ -70,8 +70,9 @@ TooShort set entries (difference a b) places =
     (result : List ℕ) × Settled maxZoom (tilesOf result) × Same maxZoom (groundOf result) (λ X Y. set a X Y && not (set b X Y))
     × (places < length result)
 
--- "The lowest number that applies is given": n is that number, and 0 where none applies
-pub record Lowest (six seven eleven twelve : Type 0) (n : ℕ) : Type 0 where
+-- "The lowest number that applies is given"; from request K4 on that is the first in the order of tests, in which 6, 7, 11 and 12 stand so:
+-- n is that number, and 0 where none applies
+pub record TestedFirst (six seven eleven twelve : Type 0) (n : ℕ) : Type 0 where
   pub is-6 : (n ≡ 6) ↔ six
   pub is-7 : (n ≡ 7) ↔ ((six → ⊥) × seven)
   pub is-11 : (n ≡ 11) ↔ ((six → ⊥) × (seven → ⊥) × eleven)
@@ -82,7 +83,7 @@ pub record Lowest (six seven eleven twelve : Type 0) (n : ℕ) : Type 0 where
 -- a call whose operands stand for these sets, with these entries, and that is lent so many places
 abbrev pub Refuses : (Operand → ℕ → ℕ → Bool) → (Operand → List ℕ) → Operation → ℕ → ℕ → Type 0
 Refuses set entries asked places n =
-    Lowest (OneOf TooLong entries asked) (OneOf NoTiles entries asked) (Unsettled entries asked) (TooShort set entries asked places) n
+    TestedFirst (OneOf TooLong entries asked) (OneOf NoTiles entries asked) (Unsettled entries asked) (TooShort set entries asked places) n
 
 -- a test and its words
 abbrev Tells : Bool → Type 0 → Type 0
@@ -91,9 +92,9 @@ Tells b words = (b ≡ true) ↔ words
 untold : {b : Bool} {words : Type 0} → Tells b words → b ≡ false → words → ⊥
 untold t e w = true≢false (sym (t .1 w) ∙ e)
 
-lowest : {six seven eleven twelve : Type 0} (a b c d : Bool) → Tells a six → Tells b seven → (b ≡ false → Tells c eleven) → Tells d twelve
-    → Lowest six seven eleven twelve ((6 when a else 7 when b else 11 when c) else 12 when d)
-lowest true b c d A B C D =
+tested-first : {six seven eleven twelve : Type 0} (a b c d : Bool) → Tells a six → Tells b seven → (b ≡ false → Tells c eleven)
+    → Tells d twelve → TestedFirst six seven eleven twelve ((6 when a else 7 when b else 11 when c) else 12 when d)
+tested-first true b c d A B C D =
     let s = A .0 refl in
     record {
       is-6 = (λ e. s, λ w. refl);
@@ -103,7 +104,7 @@ lowest true b c d A B C D =
       accepted = (λ e. absurd (omega arith), λ w. absurd (w .0 s));
       no-other = λ x six seven y z. six refl;
     }
-lowest false true c d A B C D =
+tested-first false true c d A B C D =
     let s = B .0 refl in
     let a = untold A refl in
     record {
@@ -114,7 +115,7 @@ lowest false true c d A B C D =
       accepted = (λ e. absurd (omega arith), λ w. absurd (w .1 s));
       no-other = λ x six seven y z. seven refl;
     }
-lowest false false true d A B C D =
+tested-first false false true d A B C D =
     let s = C refl .0 refl in
     let a = untold A refl in
     let b = untold B refl in
@@ -126,7 +127,7 @@ lowest false false true d A B C D =
       accepted = (λ e. absurd (omega arith), λ w. absurd (w .2 s));
       no-other = λ x six seven eleven z. eleven refl;
     }
-lowest false false false true A B C D =
+tested-first false false false true A B C D =
     let s = D .0 refl in
     let a = untold A refl in
     let b = untold B refl in
@@ -139,7 +140,7 @@ lowest false false false true A B C D =
       accepted = (λ e. absurd (omega arith), λ w. absurd (w .3 s));
       no-other = λ x six seven eleven twelve. twelve refl;
     }
-lowest false false false false A B C D =
+tested-first false false false false A B C D =
     let a = untold A refl in
     let b = untold B refl in
     let c = untold (C refl) refl in
@@ -203,19 +204,19 @@ never = (λ e. true≢false (sym e), λ w. absurd w)
 
 -- one list, or two, and then the memory
 list-then : {twelve : Type 0} (list : List ℕ) (d : Bool) → Tells d twelve
-    → Lowest (TooLong list) (NoTiles list) ⊥ twelve (listRefusal list else 12 when d)
+    → TestedFirst (TooLong list) (NoTiles list) ⊥ twelve (listRefusal list else 12 when d)
 unfolding listRefusal
 list-then {twelve} list d D =
     let a = ltb maxEntries (length list) in
     let b = not (allOf isEntry list) in
-    subst (λ (n : ℕ). Lowest (TooLong list) (NoTiles list) ⊥ twelve ((6 when a else n) else 12 when d)) (else-none (7 when b))
-    (lowest a b false d (too-long list) (no-tiles list) (λ e. never) D)
+    subst (λ (n : ℕ). TestedFirst (TooLong list) (NoTiles list) ⊥ twelve ((6 when a else n) else 12 when d)) (else-none (7 when b))
+    (tested-first a b false d (too-long list) (no-tiles list) (λ e. never) D)
 
 pair-then : {twelve : Type 0} (a b : List ℕ) (d : Bool) → Tells d twelve
-    → Lowest (TooLong a ⊎ TooLong b) (NoTiles a ⊎ NoTiles b) (NotSettled a ⊎ NotSettled b) twelve (pairRefusal a b else 12 when d)
+    → TestedFirst (TooLong a ⊎ TooLong b) (NoTiles a ⊎ NoTiles b) (NotSettled a ⊎ NotSettled b) twelve (pairRefusal a b else 12 when d)
 unfolding pairRefusal
 pair-then a b d D =
-    lowest (ltb maxEntries (length a) || ltb maxEntries (length b)) (not (allOf isEntry a && allOf isEntry b))
+    tested-first (ltb maxEntries (length a) || ltb maxEntries (length b)) (not (allOf isEntry a && allOf isEntry b))
     (not (isSettled a && isSettled b)) d
     (either _ _ (too-long a) (too-long b)) (either-not (allOf isEntry a) (allOf isEntry b) (no-tiles a) (no-tiles b)) unsettled D
   where
@@ -224,13 +225,13 @@ pair-then a b d D =
         let p = and-parts (allOf isEntry a) (allOf isEntry b) (not-false _ e) in
         either-not (isSettled a) (isSettled b) (not-settled a (p .0)) (not-settled b (p .1))
 
-pub a-list-is-refused : (list : List ℕ) → Lowest (TooLong list) (NoTiles list) ⊥ ⊥ (listRefusal list)
-a-list-is-refused list = subst (Lowest (TooLong list) (NoTiles list) ⊥ ⊥) (else-none (listRefusal list)) (list-then list false never)
+pub a-list-is-refused : (list : List ℕ) → TestedFirst (TooLong list) (NoTiles list) ⊥ ⊥ (listRefusal list)
+a-list-is-refused list = subst (TestedFirst (TooLong list) (NoTiles list) ⊥ ⊥) (else-none (listRefusal list)) (list-then list false never)
 
 pub a-pair-is-refused : (a b : List ℕ)
-    → Lowest (TooLong a ⊎ TooLong b) (NoTiles a ⊎ NoTiles b) (NotSettled a ⊎ NotSettled b) ⊥ (pairRefusal a b)
+    → TestedFirst (TooLong a ⊎ TooLong b) (NoTiles a ⊎ NoTiles b) (NotSettled a ⊎ NotSettled b) ⊥ (pairRefusal a b)
 a-pair-is-refused a b =
-    subst (Lowest (TooLong a ⊎ TooLong b) (NoTiles a ⊎ NoTiles b) (NotSettled a ⊎ NotSettled b) ⊥) (else-none (pairRefusal a b))
+    subst (TestedFirst (TooLong a ⊎ TooLong b) (NoTiles a ⊎ NoTiles b) (NotSettled a ⊎ NotSettled b) ⊥) (else-none (pairRefusal a b))
     (pair-then a b false never)
 
 -- what is said of the places is what their test says

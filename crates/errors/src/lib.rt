@@ -1,4 +1,4 @@
-// The refusals of document 01, "Who can cause a refusal": a case for each number, and the number of each case.
+// The refusals of document 01, "Who can cause a refusal", and of document 02: a case for each number, and the number of each case.
 ghost use mathlib.Core.Path.{_≡_};
 ghost use Rattle.errors.specs.Answer.{numberOf};
 ghost use Rattle.errors.specs.Cases.{checkNumber};
@@ -35,6 +35,8 @@ pub enum Refusal {
     Brackets,
     // 15: a line that is no form.
     NoForm,
+    // 16: a state that no calls leave.
+    NoState,
 }
 
 // Whether a call is refused, and why: what a check answers.
@@ -66,7 +68,7 @@ pub enum U64Answer {
     Refused(Refusal),
 }
 
-// The number by which document 01 names a refusal.
+// The number by which the papers name a refusal.
 pub fn number(why: Refusal) -> u8
     ensures { λ r. ⌜ r ≡ numberOf why ⌝ }
 {
@@ -86,6 +88,7 @@ pub fn number(why: Refusal) -> u8
         Refusal::LineLength => 13,
         Refusal::Brackets => 14,
         Refusal::NoForm => 15,
+        Refusal::NoState => 16,
     }
 }
 
@@ -103,7 +106,14 @@ pub fn check_number(r: Check) -> u8
 pub fn turn(why: Refusal) -> u8
     ensures { λ r. ⌜ r ≡ turnOf (numberOf why) ⌝ }
 {
-    number(why)
+    let n = number(why);
+    if n == 16 {
+        return 3;
+    }
+    if n < 4 {
+        return n - 1;
+    }
+    n
 }
 
 // The refusal of two that is tested first.

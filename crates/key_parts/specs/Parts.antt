@@ -19,7 +19,7 @@ sharedLength [] t = 0
 sharedLength (a ∷ s) [] = 0
 sharedLength (a ∷ s) (b ∷ t) = cond (eqb a b) (suc (sharedLength s t)) 0
 
--- of two keys the lowest number over both
+-- of two keys the refusal that is tested first over both
 abbrev pub sharedRefusal : List ℕ → List ℕ → ℕ
 sharedRefusal a b = 4 when (ltb maxZoom (length a) || ltb maxZoom (length b)) else 5 when (not (allDigits a) || not (allDigits b))
 

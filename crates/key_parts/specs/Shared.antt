@@ -16,7 +16,7 @@ use Rattle.quadkey.specs.Key.{allDigits, keyRefusal}
 use Rattle.quadkey.specs.Refusals.{accepted-key}
 use Rattle.key_parts.specs.Parts.{sharedLength, sharedRefusal}
 
--- the lowest number over two keys, from the two keys' own numbers
+-- the refusal that is tested first over two keys, from the two keys' own numbers
 module _ (a b : List ℕ) where
   pub shared-long : maxZoom < length b → sharedRefusal a b ≡ 4
   shared-long h = rw (lt-ltb _ _ h) (pick (ltb maxZoom (length a)))

@@ -55,7 +55,7 @@ pub fn shared_key_refusal(a: &[u8], b: &[u8]) -> u8
     errors::check_number(shared_check(a, b))
 }
 
-// The lowest number over both keys: lengths first, then bytes.
+// The refusal that is tested first over both keys: lengths, then bytes.
 fn shared_check(a: &[u8], b: &[u8]) -> Check
     ensures { λ r. ⌜ checkNumber r ≡ sharedRefusal (now (a .entry)) (now (b .entry)) ⌝ }
 {

@@ -81,7 +81,7 @@ pub record HoldsTile (b : TileZBox) (t : Tile) : Type 0 where
 abbrev pub containsOnMap : TileZBox → ℕ → ℕ → ℕ → Answer Bool
 containsOnMap b x y z = answer (boxRefusal b) false (inBox b x y z)
 
--- the lowest number over both: 1 for either zoom, then 2 for the tile, then 10 for the box
+-- the first that applies over both: 1 for either zoom, then 2 for the tile, then 10 for the box
 abbrev pub containsRefusal : TileZBox → ℕ → ℕ → ℕ → ℕ
 containsRefusal b x y z = 1 when ltb maxZoom (b .zoom) else tileRefusal x y z else boxRefusal b
 

@@ -95,7 +95,7 @@ impl TileZBox {
         }
     }
 
-    // Whether a tile is in the box. The lowest number over the tile and the box: a zoom, then the tile, then the box.
+    // Whether a tile is in the box. What is tested over the tile and the box: a zoom, then the tile, then the box.
     pub fn contains_tile(self, x: u32, y: u32, z: u8) -> BoolAnswer
         ensures { λ r. ⌜ boolCase r ≡ containsOf self x y z ⌝ }
     {

@@ -14,7 +14,7 @@ use Rattle.tile_zbox.specs.declared.TileZBox.{TileZBox}
 abbrev pub deep : TileZBox → Bool
 deep b = ltb maxZoom (b .zoom)
 
--- the lowest number over boxes and a count: a zoom, the count, then a box upside down or off the map
+-- the refusal that is tested first over boxes and a count: a zoom, the count, then a box upside down or off the map
 unfoldable pub refusalOver : List TileZBox → ℕ → ℕ
 refusalOver bs n = 1 when anyOf deep bs else 6 when ltb maxBoxes n else 10 when anyOf wrongEdges bs
 

@@ -87,7 +87,7 @@ fn put(out: &mut [u32], at: usize, b: TileZBox)
     out[at + 4] = b.maxy;
 }
 
-// The lowest number over all boxes and their count.
+// The refusal that is tested first over all boxes and their count.
 fn boxes_check(boxes: &[u32]) -> Check
     ensures { λ r. ⌜ checkNumber r ≡ numbersRefusal (now (boxes .entry)) ⌝ }
 {

@@ -1,4 +1,4 @@
--- `check` meets its contract: the refusals in the order of their numbers.
+-- `check` meets its contract: the refusals in the order of their tests.
 use mathlib.Core.Path.{sym, _∙_}
 use Rattle.constants.specs.Limits.{maxLine}
 use Rattle.form.specs.Reading.{line-too-long, line-too-deep, line-in-limits}
