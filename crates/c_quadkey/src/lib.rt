@@ -1,4 +1,4 @@
-// What the exported calls of quadkey.rs do: each asks the crates `quadkey` and `key_parts`, and hands the answer on in numbers.
+// What the exported calls of quadkey.rs do: each asks `quadkey`, `key_reader` or `key_parts`, and hands the answer on in numbers.
 ghost use mathlib.Core.Path.{_≡_};
 ghost use Rattle.c_give.specs.Exported.{answered, asByte, answeredIn, never};
 ghost use Rattle.c_quadkey.specs.Part.{partLength};
@@ -23,7 +23,7 @@ pub fn xyz2quadkey_vec(x: u32, y: u32, z: u8, out: &mut [u8], count: &mut u64) -
 pub fn quadkey2xyz(key: &[u8], tx: &mut u32, ty: &mut u32, tz: &mut u8) -> u8
     ensures { λ r. ⌜ answered r (tileAt (now (tx .exit)) (now (ty .exit)) (now (tz .exit))) ≡ keyTile (now (key .entry)) ⌝ }
 {
-    c_give::tile(quadkey::quadkey2xyz(key), tx, ty, tz)
+    c_give::tile(key_reader::quadkey2xyz(key), tx, ty, tz)
 }
 
 pub fn check(key: &[u8]) -> u8

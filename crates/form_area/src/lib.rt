@@ -159,9 +159,9 @@ fn tile_of(run: &[u8]) -> TileAnswer
     ensures { λ r. ⌜ tileCase r ≡ keyTile (keyOfRun (now (run .entry))) ⌝ }
 {
     if is_dash(run) {
-        return quadkey::quadkey2xyz(&run[..0]);
+        return key_reader::quadkey2xyz(&run[..0]);
     }
-    quadkey::quadkey2xyz(run)
+    key_reader::quadkey2xyz(run)
 }
 
 fn is_dash(run: &[u8]) -> bool

@@ -2,7 +2,7 @@
 use mathlib.Core.Path.{_≡_, refl, subst}
 use mathlib.Core.Logic.{_↔_, _⊎_, inl, inr, ⊎-elim}
 use mathlib.Core.Bool.{Bool, true, false, _&&_}
-use mathlib.Core.List.{List, [], _∷_}
+use mathlib.Core.List.{List, [], _∷_, _++_}
 use Prim.Native.Nat.{ℕ, zero, suc, _+_, _-_, _≤_, _<_}
 use native.Mathlib.Numerals.{add-one}
 use native.Mathlib.Omega.{arith}
@@ -33,6 +33,16 @@ by-digit P p q r s b e =
 pub digits-first : (b : ℕ) (bs : List ℕ) → allDigits (b ∷ bs) ≡ true → (isDigit b ≡ true) × (allDigits bs ≡ true)
 unfolding allDigits
 digits-first b bs e = and-parts (isDigit b) (allDigits bs) e
+
+-- whether all bytes of two parts are digits
+pub digits-append : (front back : List ℕ) → allDigits (front ++ back) ≡ allDigits front && allDigits back
+unfolding allDigits
+digits-append [] back = refl
+digits-append (a ∷ front) back = rw (digits-append front back) (pick (isDigit a))
+  where
+    pick : (p : Bool) → p && (allDigits front && allDigits back) ≡ (p && allDigits front) && allDigits back
+    pick true = refl
+    pick false = refl
 
 -- whether all bytes from place i on are digits, a byte at a time
 pub rest-digit : (key : List ℕ) (i : ℕ) → i < length key → isDigit (getD key i 0) ≡ true

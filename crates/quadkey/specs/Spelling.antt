@@ -3,16 +3,14 @@ use mathlib.Core.Path.{_≡_, refl, sym, ap}
 use mathlib.Core.Bool.{true}
 use mathlib.Core.List.{List, [], _∷_, _++_}
 use Prim.Native.Nat.{ℕ, zero, suc, _+_, _-_, _*_, _/_, _%_, _^_, _≤_, _<_}
-use native.Mathlib.Nat.{lt-of-lt-of-le, pow-suc, div-one, add-sub-cancel-left, mod-one}
+use native.Mathlib.Nat.{pow-suc, div-one, add-sub-cancel-left, mod-one}
 use native.Mathlib.Numerals.{add-one}
 use native.Mathlib.Omega.{arith}
 use lib.Arith.{digits-lt}
-use lib.ListN.{length, take, drop, getD, set, length-append}
-use lib.Pow.{pow-mono}
-use lib.Seq.{take-suc, length-take-le, take-all}
+use lib.ListN.{length, drop, getD, set, length-append}
+use lib.Seq.{take-all}
 use borrow.Author.Tests.{le-leb}
 use Rattle.bits.specs.Bits.{bit, bit-small, bit-shift, low-bits-suc, bit-at-seam, bit-below}
-use Rattle.constants.specs.Limits.{maxZoom, maxZoom-small}
 use Rattle.errors.specs.Memory.{front, front-more}
 use Rattle.quadkey.specs.Bytes.{digit-bounds, digits-first}
 use Rattle.quadkey.specs.Key.{digitAt, keyFrom, keyOf, allDigits, spelled}
@@ -99,16 +97,6 @@ fill-digit base x y z i d memory out h k e f =
     let g : z - 1 - i ≡ z - suc i = omega arith in
     let v : base + d ≡ getD (keyFrom base x y z) i 0 = rw (f, g) (sym (key-digit base x y z i h)) in
     rw (e, v, add-one i) (front-more i (keyFrom base x y z) memory n m)
-
--- one digit more is read
-pub spelled-more : (j : ℕ) (key : List ℕ) (i : ℕ) → i < length key
-    → spelled j (take (i + 1) key) ≡ 2 * spelled j (take i key) + bit (getD key i 0 - 48) j
-spelled-more j key i h = rw (add-one i, take-suc key i 0 h) (spelled-snoc j (take i key) (getD key i 0))
-
-pub spelled-fits : (j : ℕ) (key : List ℕ) (i : ℕ) → i ≤ length key → i ≤ maxZoom → spelled j (take i key) < 2 ^ 30
-spelled-fits j key i h k =
-    let l : length (take i key) ≤ 30 = omega (arith, length-take-le i key h, maxZoom-small) in
-    lt-of-lt-of-le (spelled-small j (take i key)) (pow-mono l)
 
 pub key-filled : (base x y z : ℕ) (memory : List ℕ) → front z (keyFrom base x y z) memory ≡ keyFrom base x y z ++ drop z memory
 key-filled base x y z memory =

@@ -73,7 +73,7 @@ the-accepted-keys key = (
   λ k. key-accepted key (k .0) (all-digits key (λ i h. rw (le-leb _ _ (k .1 i h .0), le-leb _ _ (k .1 i h .1)))),
 )
 
--- "4 more than 29 bytes; 5 a byte other than 48 to 51", by document 02 more than 30; "The lowest number that applies is given": 4 whatever
+-- "4 more than 29 bytes; 5 a byte other than 48 to 51", by document 02 more than 30. 4 is tested before 5: 4 whatever
 -- the bytes are, 5 where the length is right
 pub four-is-too-long : (key : List ℕ) → keyRefusal key ≡ 4 ↔ maxZoom < length key
 four-is-too-long key = (refused-long key, key-too-long key)

@@ -1,10 +1,8 @@
-// Quadkeys: a tile's key, a key's tile, and the key flipped.
+// Quadkeys: a tile's key, whether bytes are a key, and the key flipped. The tile of a key is in `key_reader`.
 use constants::MAX_ZOOM;
 use errors::Check;
 use errors::Count;
 use errors::Refusal;
-use tile::Tile;
-use tile::TileAnswer;
 ghost use mathlib.Core.Path.{_≡_};
 ghost use mathlib.Core.Bool.{true};
 ghost use mathlib.Core.List.{_++_, map};
@@ -12,8 +10,7 @@ ghost use Prim.Native.Nat.{_≤_, _<_};
 ghost use lib.ListN.{length, drop};
 ghost use Rattle.constants.specs.Limits.{maxZoom};
 ghost use Rattle.errors.specs.Cases.{checkNumber, left};
-ghost use Rattle.tile.specs.OnMap.{tileCase};
-ghost use Rattle.quadkey.specs.Key.{digitAt, keyFrom, keyWritten, isDigit, allDigits, keyRefusal, isKey, keyTile, flipDigit};
+ghost use Rattle.quadkey.specs.Key.{digitAt, keyFrom, keyWritten, isDigit, allDigits, keyRefusal, isKey, flipDigit};
 ghost use Rattle.quadkey.specs.Key.{flipWritten};
 
 // Whether a byte is a digit of a key.
@@ -48,39 +45,6 @@ pub fn is_quadkey(key: &[u8]) -> bool
         Check::Fine => true,
         Check::Refused(_) => false,
     }
-}
-
-// The tile of a key: the bytes are tested as they are read.
-pub fn quadkey2xyz(key: &[u8]) -> TileAnswer
-    ensures { λ r. ⌜ tileCase r ≡ keyTile (now (key .entry)) ⌝ }
-{
-    let zoom = key.len();
-    if zoom > MAX_ZOOM as usize {
-        return TileAnswer::Refused(Refusal::KeyLength);
-    }
-    let mut x: u32 = 0;
-    let mut y: u32 = 0;
-    let mut i = 0;
-    while i < zoom {
-        if !is_quadkey_byte(key[i]) {
-            return TileAnswer::Refused(Refusal::KeyByte);
-        }
-        let digit = wide(key[i] - b'0');
-        x = 2 * x + digit % 2;
-        y = 2 * y + digit / 2 % 2;
-        i += 1;
-    }
-    TileAnswer::Found(Tile {
-        x,
-        y,
-        z: zoom as u8,
-    })
-}
-
-fn wide(b: u8) -> u32
-    ensures { λ r. ⌜ r ≡ b ⌝ }
-{
-    b as u32
 }
 
 // The key of a tile, as bytes 48 to 51.

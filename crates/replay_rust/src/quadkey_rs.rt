@@ -40,7 +40,7 @@ fn of_bytes(name: &[u8], given: &[u64], out: &mut [u8], want: &[u64]) -> bool {
 fn of_key(name: &[u8], key: &[u8], out: &mut [u8], want: &[u64]) -> bool {
     match names::index(name, b"quadkey2xyz is_quadkey quadkey_flipy") {
         0 => {
-            answers::same_tile(quadkey::quadkey2xyz(key), want)
+            answers::same_tile(key_reader::quadkey2xyz(key), want)
                 && answers::same_check(quadkey::check(key), want)
         }
         1 => answers::same_bool(quadkey::is_quadkey(key), want),

@@ -61,7 +61,7 @@ pub fn tile_3_5(before: Tally) -> Tally {
     t = tally::told(
         t,
         b"(3,5,3)",
-        text::of_tile(text::none(), quadkey::quadkey2xyz(b"213")),
+        text::of_tile(text::none(), key_reader::quadkey2xyz(b"213")),
     );
     tally::asked(b"digits of that quadkey, as many as its level");
     let mut room = [0u8; LONGEST_KEY];
@@ -114,7 +114,7 @@ pub fn children_of_13(before: Tally) -> Tally {
 fn children_of(t: Tally, key: &[u8], says: &[u8]) -> Tally {
     tally::asked(b"children of ");
     io::write_all(1, key);
-    tally::told(t, says, family(quadkey::quadkey2xyz(key)))
+    tally::told(t, says, family(key_reader::quadkey2xyz(key)))
 }
 
 fn family(answer: TileAnswer) -> Text {
@@ -136,7 +136,7 @@ fn entry(t: Text, n: u64) -> Text {
 fn parent(t: Tally, key: &[u8], says: &[u8]) -> Tally {
     tally::asked(b"parent of ");
     io::write_all(1, key);
-    let gives = match quadkey::quadkey2xyz(key) {
+    let gives = match key_reader::quadkey2xyz(key) {
         TileAnswer::Found(at) => {
             let up = fns::parent(at.x, at.y, at.z, OptionU8::None);
             let tile = up.tile;

@@ -36,7 +36,7 @@ fn key(before: Tally, x: u32, y: u32, says: &[u8]) -> Tally {
     let t = tally::told_text(
         before,
         at,
-        text::of_tile(text::none(), quadkey::quadkey2xyz(says)),
+        text::of_tile(text::none(), key_reader::quadkey2xyz(says)),
     );
     tally::asked(b"quadkey of that tile");
     tally::told(t, says, text::key(text::none(), x, y, ZOOM))

@@ -69,9 +69,13 @@ pub fn digits(before: Tally) -> Tally {
     let key = LONG;
     tally::source(b"Document 02, K11: Document 01's plates with 29 and 30 digits become 30 and 31");
     tally::asked(b"30 digits");
-    let t = tally::told(before, b"accepted", read(quadkey::quadkey2xyz(&key[..30])));
+    let t = tally::told(
+        before,
+        b"accepted",
+        read(key_reader::quadkey2xyz(&key[..30])),
+    );
     tally::asked(b"31 digits");
-    tally::told(t, b"refusal 4", read(quadkey::quadkey2xyz(&key)))
+    tally::told(t, b"refusal 4", read(key_reader::quadkey2xyz(&key)))
 }
 
 fn read(answer: TileAnswer) -> Text {

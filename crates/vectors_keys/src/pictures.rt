@@ -73,7 +73,7 @@ fn start() -> Walk {
 fn with_tile(row: Walk, x: u32, y: u32, z: u8, shown: &[u8]) -> Walk {
     let next = row.next;
     let digits = z as usize;
-    let read = quadkey::quadkey2xyz(parts::bytes(shown, next, digits));
+    let read = key_reader::quadkey2xyz(parts::bytes(shown, next, digits));
     let place = TileAnswer::Found(Tile { x, y, z });
     Walk {
         keys: text::key(text::apart(row.keys), x, y, z),

@@ -45,7 +45,7 @@ fn above(t: Tally, key: &[u8], n: u8, says: &[u8]) -> Tally {
     io::write_all(1, b" with n = ");
     io::print_decimal(1, n as u64);
     io::write_all(1, b", and its steps");
-    let gives = match quadkey::quadkey2xyz(key) {
+    let gives = match key_reader::quadkey2xyz(key) {
         TileAnswer::Found(at) => cut(fns::parent(at.x, at.y, at.z, OptionU8::Some(n))),
         TileAnswer::Refused(why) => text::refusal(text::none(), why),
     };

@@ -1,0 +1,4 @@
+pub mod Reader
+pub mod Left
+pub mod Steps
+pub mod Theorems
