@@ -11,22 +11,24 @@ static void accept(uint8_t refusal, const char *path, int line)
     exit(1);
 }
 
-/* A byte more of a key and a tile more of an area are kept than there may be, for the library to refuse. */
+/* A key is read byte by byte and not kept. A tile more of an area is kept than there may be, for the library to refuse. */
 static uint64_t read_area(const char *path, uint64_t *area)
 {
     static uint64_t tiles[NORI_MAX_ENTRIES + 1];
     uint64_t n = 0, count;
-    uint8_t key[NORI_MAX_ZOOM + 1], z;
-    uint32_t x, y;
     int c = 0, line = 0;
     FILE *file = fopen(path, "r");
     for (; file && c != EOF && n <= NORI_MAX_ENTRIES; line++) {
-        size_t length = 0;
-        while ((c = getc(file)) != EOF && c != '\n')
-            if (length < sizeof key) key[length++] = (uint8_t)c;
+        uint32_t x = 0, y = 0, tx, ty;
+        uint8_t length = 0, bad = 0, last = 0, tz;
+        while ((c = getc(file)) != EOF && c != '\n') {
+            last = (uint8_t)c;
+            accept(nori_key_feed(last, &x, &y, &length, &bad), path, line + 1);
+        }
         if (length == 0) continue;
-        accept(nori_quadkey2xyz(key, length == 1 && key[0] == '-' ? 0 : length, &x, &y, &z), path, line + 1);
-        accept(nori_entry(x, y, z, &tiles[n++]), path, line + 1);
+        if (length == 1 && last == '-') length = bad = 0; /* the reader of no bytes, which are the root's key */
+        accept(nori_key_tile(x, y, length, bad, &tx, &ty, &tz), path, line + 1);
+        accept(nori_entry(tx, ty, tz, &tiles[n++]), path, line + 1);
     }
     if (!file || ferror(file)) exit((perror(path), 1));
     fclose(file);

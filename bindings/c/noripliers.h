@@ -3,8 +3,9 @@
  * crate utiles-core, which is called the Rust below.
  *
  * A call returns 0 where it is accepted, and otherwise the number of its refusal: of several
- * that apply, the lowest. Each value comes back through a pointer. Where the call is refused it
- * is 0, and lent memory is as it was before.
+ * that apply, the one that its comment names first. Each value comes back through a pointer.
+ * Where the call is refused it is 0, and lent memory is as it was before, as is a reader of
+ * keys, which nori_key_feed changes in its place.
  *
  * So look at every result. 0 is a value like others: for a tile, an entry and a key's length it
  * is the root, and a list with a refusal that went unseen covers the whole map. Each call is
@@ -45,7 +46,7 @@ extern "C" {
 #endif
 
 /* The version: 10,000 for each major number, 100 for each minor one, 1 for each patch. */
-#define NORI_VERSION 500
+#define NORI_VERSION 600
 
 /* The deepest zoom. */
 #define NORI_MAX_ZOOM 30
@@ -105,7 +106,9 @@ enum nori_refusal {
     /* too many open brackets. */
     NORI_BRACKETS = 14,
     /* a line that is no form. */
-    NORI_NO_FORM = 15
+    NORI_NO_FORM = 15,
+    /* a state that no calls leave. */
+    NORI_NO_STATE = 16
 };
 
 /* ---------------------------------------------------------------------------------------------- */
@@ -200,6 +203,21 @@ NORI_NODISCARD uint8_t nori_xyz2quadkey_vec(uint32_t x, uint32_t y, uint8_t z, u
  * Refused: 4, 5. */
 NORI_NODISCARD uint8_t nori_quadkey2xyz(const uint8_t *key, size_t key_length, uint32_t *tx,
                                         uint32_t *ty, uint8_t *tz);
+
+/* One byte more for a reader of keys, which x, y, count and bad are: before the first byte all
+ * zeros, afterwards as the last feed left them. It keeps no byte and takes any number of them,
+ * and nori_key_tile tells at any time what they are. A reader that no bytes leave is refused,
+ * and stays as it was.
+ * Refused: 16. */
+NORI_NODISCARD uint8_t nori_key_feed(uint8_t byte, uint32_t *x, uint32_t *y, uint8_t *count,
+                                     uint8_t *bad);
+
+/* What the bytes that a reader was fed are as a whole key: its tile or its refusal, just as
+ * nori_quadkey2xyz answers for all of them. After more bytes than a key has it is 4, however
+ * many follow.
+ * Refused: 16, 4, 5. */
+NORI_NODISCARD uint8_t nori_key_tile(uint32_t x, uint32_t y, uint8_t count, uint8_t bad,
+                                     uint32_t *tx, uint32_t *ty, uint8_t *tz);
 
 /* Whether the bytes are a key: nothing but the number comes back.
  * Refused: 4, 5. */
@@ -688,9 +706,8 @@ NORI_NODISCARD uint8_t nori_is_settled(const uint64_t *list, size_t list_count, 
 NORI_NODISCARD uint8_t nori_form_check(const uint8_t *line, size_t line_length);
 
 /* The settled list of a line's form. Each list on the way has NORI_FORM_PLACES places, and out
- * may have any number. 13, 14 and 15 come before the others, and of those the first from the
- * left.
- * Refused: 4, 5, 12, 13, 14, 15. */
+ * may have any number. Of 4, 5 and 12 the first from the left is given.
+ * Refused: 13, 14, 15, 4, 5, 12. */
 NORI_NODISCARD uint8_t nori_form_area(const uint8_t *line, size_t line_length, uint64_t *out,
                                       size_t out_places, uint64_t *count);
 

@@ -1,4 +1,4 @@
-/* Calls functions of every shape from C: values, keys, lists, two lists, lent memory, boxes of degrees, cursors and chunks. */
+/* Calls functions of every shape from C: values, keys, readers, lists, two lists, lent memory, boxes of degrees, cursors and chunks. */
 #include "noripliers.h"
 #include <stdio.h>
 #include <string.h>
@@ -50,6 +50,30 @@ static void keys(void)
     EXPECT(nori_xyz2quadkey(3, 5, 3, out, 2, &count) == NORI_MEMORY && count == 0 && out[0] == 9);
     EXPECT(nori_xyz2quadkey(3, 5, 3, out, 5, &count) == 0 && count == 3 && memcmp(out, key, 3) == 0 && out[3] == 9);
     EXPECT(nori_ancestor_key(key, 3, 2, &count) == 0 && count == 2);
+}
+
+/* A reader takes in its values and gives them where they were; what no bytes leave stays as it was. */
+static void readers(void)
+{
+    static const char key[] = "213";
+    uint32_t x = 0, y = 0, tx = 9, ty = 9;
+    uint8_t count = 0, bad = 0, tz = 9;
+    EXPECT(nori_key_tile(x, y, count, bad, &tx, &ty, &tz) == 0 && tx == 0 && ty == 0 && tz == 0);
+    for (size_t i = 0; key[i]; i++) EXPECT(nori_key_feed((uint8_t)key[i], &x, &y, &count, &bad) == 0);
+    EXPECT(x == 3 && y == 5 && count == 3 && bad == 0);
+    EXPECT(nori_key_tile(x, y, count, bad, &tx, &ty, &tz) == 0 && tx == 3 && ty == 5 && tz == 3);
+    EXPECT(nori_key_feed('4', &x, &y, &count, &bad) == 0 && x == 0 && y == 0 && count == 4 && bad == 1);
+    EXPECT(nori_key_tile(x, y, count, bad, &tx, &ty, &tz) == NORI_KEY_BYTE && tx == 0 && ty == 0 && tz == 0);
+    for (int i = 0; i < 600; i++) EXPECT(nori_key_feed('0', &x, &y, &count, &bad) == 0);
+    EXPECT(x == 0 && y == 0 && count == NORI_MAX_DIGITS + 1 && bad == 0);
+    tx = ty = tz = 9;
+    EXPECT(nori_key_tile(x, y, count, bad, &tx, &ty, &tz) == NORI_KEY_LENGTH && tx == 0 && ty == 0 && tz == 0);
+    x = 8, y = 7, count = 3;
+    EXPECT(nori_key_feed('0', &x, &y, &count, &bad) == NORI_NO_STATE && x == 8 && y == 7 && count == 3 && bad == 0);
+    x = 7, bad = 2;
+    EXPECT(nori_key_feed('0', &x, &y, &count, &bad) == NORI_NO_STATE && x == 7 && y == 7 && count == 3 && bad == 2);
+    tx = ty = tz = 9;
+    EXPECT(nori_key_tile(x, y, count, bad, &tx, &ty, &tz) == NORI_NO_STATE && tx == 0 && ty == 0 && tz == 0);
 }
 
 /* The last tile of the deepest zoom, its key and its numbers, and one past each. */
@@ -125,6 +149,7 @@ int main(void)
     tiles();
     parents();
     keys();
+    readers();
     deepest();
     lists();
     boxes_and_zooms();

@@ -31,6 +31,7 @@ use crate::ffi;
 /// assert_eq!(form::check(&[b'('; 4097]), Err(Error::LineLength));
 /// assert_eq!(form::check(&[b'('; 17]), Err(Error::Brackets));
 /// assert_eq!(form::check(b"tiles"), Err(Error::NoForm));
+/// assert_eq!(Error::NoState.number(), 16);
 /// ```
 #[non_exhaustive]
 #[derive(Clone, Copy, Debug, PartialEq, Eq, Hash)]
@@ -66,13 +67,16 @@ pub enum Error {
     Brackets,
     /// 15: a line that is no form.
     NoForm,
+    /// 16: a state that no calls leave. The types of this crate hold none such, so that no call of
+    /// the crate gives it: it is here for its number.
+    NoState,
     /// Any other number: the archive is newer than this crate and knows a refusal that the crate
     /// has no name for.
     Unknown(u8),
 }
 
 /// The cases in the order of their numbers, from 1 on.
-const CASES: [Error; 15] = [
+const CASES: [Error; 16] = [
     Error::Zoom,
     Error::OffMap,
     Error::NoRelative,
@@ -88,6 +92,7 @@ const CASES: [Error; 15] = [
     Error::LineLength,
     Error::Brackets,
     Error::NoForm,
+    Error::NoState,
 ];
 
 impl Error {
@@ -163,6 +168,7 @@ impl fmt::Display for Error {
                 ffi::MAX_OPEN
             ),
             Error::NoForm => write!(f, "a line is no form"),
+            Error::NoState => write!(f, "the numbers of a state are none that calls leave"),
             Error::Unknown(_) => write!(
                 f,
                 "the archive gives a reason that this crate has no words for"

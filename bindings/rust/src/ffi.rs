@@ -1,7 +1,7 @@
 //! The functions of the archive, as bindings/c/noripliers.h declares them. Written by tools/bindings.
 
 /// The version: 10,000 for each major number, 100 for each minor one, 1 for each patch.
-pub const VERSION: u32 = 500;
+pub const VERSION: u32 = 600;
 
 /// The deepest zoom.
 pub const MAX_ZOOM: u8 = 30;
@@ -94,6 +94,24 @@ unsafe extern "C" {
     pub unsafe fn nori_quadkey2xyz(
         key: *const u8,
         key_length: usize,
+        tx: &mut u32,
+        ty: &mut u32,
+        tz: &mut u8,
+    ) -> u8;
+    /// One byte more for a reader of keys, which x, y, count and bad are: before the first byte all zeros, afterwards as the last feed left them.
+    pub safe fn nori_key_feed(
+        byte: u8,
+        x: &mut u32,
+        y: &mut u32,
+        count: &mut u8,
+        bad: &mut u8,
+    ) -> u8;
+    /// What the bytes that a reader was fed are as a whole key: its tile or its refusal, just as nori_quadkey2xyz answers for all of them.
+    pub safe fn nori_key_tile(
+        x: u32,
+        y: u32,
+        count: u8,
+        bad: u8,
         tx: &mut u32,
         ty: &mut u32,
         tz: &mut u8,
@@ -714,6 +732,8 @@ pub const REFUSALS: &[(&str, &[u8])] = &[
     ("nori_xyz2quadkey", &[1, 2, 12]),
     ("nori_xyz2quadkey_vec", &[1, 2, 12]),
     ("nori_quadkey2xyz", &[4, 5]),
+    ("nori_key_feed", &[16]),
+    ("nori_key_tile", &[16, 4, 5]),
     ("nori_quadkey_check", &[4, 5]),
     ("nori_is_quadkey", &[]),
     ("nori_is_quadkey_byte", &[]),
@@ -797,7 +817,7 @@ pub const REFUSALS: &[(&str, &[u8])] = &[
     ("nori_difference", &[6, 7, 11, 12]),
     ("nori_is_settled", &[6, 7]),
     ("nori_form_check", &[13, 14, 15]),
-    ("nori_form_area", &[4, 5, 12, 13, 14, 15]),
+    ("nori_form_area", &[13, 14, 15, 4, 5, 12]),
     ("nori_form_answer", &[12]),
     ("nori_form_feed", &[]),
     ("nori_form_finish", &[12]),

@@ -27,8 +27,8 @@
 //! - The methods of its traits `TileLike`, `TileParent` and `TileChildren1` are the tile's own.
 //! - What needs a sine or a logarithm, and what reads or prints text, is not there.
 //!
-//! [`Area`], [`form`] and [`parent_with_digits`] are not in utiles. [`lent`] has the calls that write
-//! to memory of the caller's own.
+//! [`Area`], [`form`], [`KeyReader`] and [`parent_with_digits`] are not in utiles. [`lent`] has the
+//! calls that write to memory of the caller's own.
 //!
 //! # Panics and the stack
 //!
@@ -52,6 +52,7 @@ pub mod constants;
 pub mod errors;
 pub mod fns;
 pub mod form;
+pub mod key_reader;
 pub mod lent;
 pub mod lnglat;
 pub mod merge;
@@ -66,6 +67,7 @@ pub use area::Area;
 pub use bbox::BBox;
 pub use errors::Error;
 pub use fns::*;
+pub use key_reader::KeyReader;
 pub use lnglat::LngLat;
 pub use merge::{merge, simplify, simplify_v1};
 pub use parent::Parents;

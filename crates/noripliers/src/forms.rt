@@ -21,9 +21,9 @@ pub extern "C" fn nori_form_check(line: &[u8]) -> u8
     c_forms::check(line)
 }
 
-// The settled list of a line's form. Each list on the way has NORI_FORM_PLACES places, and out may have any number. 13, 14 and 15
-// come before the others, and of those the first from the left.
-// Refused: 4, 5, 12, 13, 14, 15.
+// The settled list of a line's form. Each list on the way has NORI_FORM_PLACES places, and out may have any number. Of 4, 5 and 12
+// the first from the left is given.
+// Refused: 13, 14, 15, 4, 5, 12.
 #[no_mangle]
 pub extern "C" fn nori_form_area(line: &[u8], out: &mut [u64], count: &mut u64) -> u8
     ensures { λ r. ⌜ answeredIn r (now (count .exit)) (now (out .exit)) ≡ areaWritten (now (line .entry)) (now (out .entry)) ⌝ }

@@ -1,8 +1,9 @@
 // Noripliers for C and Rust: the integer arithmetic of map tiles, quadkeys and tile areas. Each function is proved to be the
 // library's call, for every input. The names are those of the Rust crate utiles-core, which is called the Rust below.
 //
-// A call returns 0 where it is accepted, and otherwise the number of its refusal: of several that apply, the lowest. Each value
-// comes back through a pointer. Where the call is refused it is 0, and lent memory is as it was before.
+// A call returns 0 where it is accepted, and otherwise the number of its refusal: of several that apply, the one that its comment
+// names first. Each value comes back through a pointer. Where the call is refused it is 0, and lent memory is as it was before, as
+// is a reader of keys, which nori_key_feed changes in its place.
 //
 // So look at every result. 0 is a value like others: for a tile, an entry and a key's length it is the root, and a list with a
 // refusal that went unseen covers the whole map. Each call is marked NORI_NODISCARD: a compiler of C23, of C++17, gcc and clang

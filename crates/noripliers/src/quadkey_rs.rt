@@ -1,6 +1,7 @@
 // Quadkeys: the calls of quadkey.rs. A key is a byte '0' to '3' for each zoom from 1 on; the root's key is empty.
 ghost use mathlib.Core.Path.{_≡_};
 ghost use Rattle.c_give.specs.Exported.{answered, asByte, answeredIn, never};
+ghost use Rattle.c_key_reader.specs.Numbers.{fedNumbers, numbersAt, toldNumbers};
 ghost use Rattle.c_quadkey.specs.Part.{partLength};
 ghost use Rattle.key_parts.specs.Parts.{ancestorRefusal, leadingPart, sharedLength, sharedRefusal};
 ghost use Rattle.quadkey.specs.Key.{flipWritten, isDigit, isKey, keyRefusal, keyTile, keyWritten};
@@ -31,6 +32,43 @@ pub extern "C" fn nori_quadkey2xyz(key: &[u8], tx: &mut u32, ty: &mut u32, tz: &
     ensures { λ r. ⌜ answered r (tileAt (now (tx .exit)) (now (ty .exit)) (now (tz .exit))) ≡ keyTile (now (key .entry)) ⌝ }
 {
     c_quadkey::quadkey2xyz(key, tx, ty, tz)
+}
+
+// One byte more for a reader of keys, which x, y, count and bad are: before the first byte all zeros, afterwards as the last feed left
+// them. It keeps no byte and takes any number of them, and nori_key_tile tells at any time what they are. A reader that no bytes
+// leave is refused, and stays as it was.
+// Refused: 16.
+#[no_mangle]
+pub extern "C" fn nori_key_feed(
+    byte: u8,
+    x: &mut u32,
+    y: &mut u32,
+    count: &mut u8,
+    bad: &mut u8,
+) -> u8
+    ensures { λ r. ⌜ answered r (numbersAt (now (x .exit)) (now (y .exit)) (now (count .exit)) (now (bad .exit)))
+        ≡ fedNumbers (numbersAt (now (x .entry)) (now (y .entry)) (now (count .entry)) (now (bad .entry))) byte ⌝ }
+{
+    c_key_reader::feed(byte, x, y, count, bad)
+}
+
+// What the bytes that a reader was fed are as a whole key: its tile or its refusal, just as nori_quadkey2xyz answers for all of them.
+// After more bytes than a key has it is 4, however many follow.
+// Refused: 16, 4, 5.
+#[no_mangle]
+pub extern "C" fn nori_key_tile(
+    x: u32,
+    y: u32,
+    count: u8,
+    bad: u8,
+    tx: &mut u32,
+    ty: &mut u32,
+    tz: &mut u8,
+) -> u8
+    ensures { λ r. ⌜ answered r (tileAt (now (tx .exit)) (now (ty .exit)) (now (tz .exit)))
+        ≡ toldNumbers (numbersAt x y count bad) ⌝ }
+{
+    c_key_reader::tile(x, y, count, bad, tx, ty, tz)
 }
 
 // Whether the bytes are a key: nothing but the number comes back.

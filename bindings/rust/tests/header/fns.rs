@@ -1,6 +1,7 @@
 use crate::deepest::{CORNERS, DEEPEST, DIGITS, LAST, RMIDS, SIDE, corner_keys, rmid};
 use crate::ffi;
 use crate::lists::{entries, keys};
+use crate::quadkey::key;
 use crate::tally::Tally;
 use crate::tile::NO_TILES;
 
@@ -110,12 +111,10 @@ fn parents(tally: &mut Tally) {
     }
 }
 
-/// The digits are the last 1 + n of the tile's key, which has one for each bit of column and row.
+/// The digits are the last 1 + n of the tile's key.
 fn ancestor(x: u32, y: u32, z: u8, n: u8) -> Ancestor {
-    let digit = |bit| b'0' + (x >> bit & 1) as u8 + 2 * (y >> bit & 1) as u8;
-    let key: Vec<u8> = (0..z).rev().map(digit).collect();
     let steps = 1 + n;
-    let mut digits = key[usize::from(z - steps)..].to_vec();
+    let mut digits = key(x, y, z)[usize::from(z - steps)..].to_vec();
     digits.resize(DIGITS, 0);
     let tile = (x >> steps, y >> steps, z - steps);
     (tile, digits.try_into().expect("no more digits"), steps)

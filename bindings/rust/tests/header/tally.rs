@@ -118,6 +118,30 @@ impl Tally {
         );
     }
 
+    /// A call that takes its values where it gives them: it turns them into others, or is refused by
+    /// a number. They then stay as they were, since zeros are a state too, the first one.
+    pub fn turns<V: Fill>(
+        &mut self,
+        name: &'static str,
+        call: impl Fn(&mut V) -> u8,
+        before: V,
+        after: Result<V, u8>,
+    ) {
+        let (number, after) = match after {
+            Ok(after) => (0, after),
+            Err(number) => (number, before.clone()),
+        };
+        self.call(
+            name,
+            0,
+            |_: &mut [u8], v| {
+                *v = before.clone();
+                call(v)
+            },
+            |_| (number, after.clone(), vec![]),
+        );
+    }
+
     /// A call that writes `answer` into so many places, sets those behind it to 0 up to `zeroed`
     /// places, gives `values`, and changes nothing else.
     pub fn writes<T: Fill, V: Fill>(

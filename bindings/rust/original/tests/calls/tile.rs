@@ -190,5 +190,22 @@ fn keys(random: &mut Random, (x, y, z): (u32, u32, u8)) {
                 "{key}"
             );
         }
+        prefixes(&key);
+    }
+}
+
+/// The reader before the first byte and after each. The original asks for text, which a part of a
+/// character is not.
+fn prefixes(key: &str) {
+    let mut reader = ours::KeyReader::new();
+    for n in 0..=key.len().min(COMPARED.into()) {
+        if let Some(prefix) = key.get(..n) {
+            assert_eq!(
+                reader.tile().ok().map(Into::into),
+                rust::quadkey2xyz(prefix).ok(),
+                "{prefix}"
+            );
+        }
+        reader.extend(key.as_bytes().get(n));
     }
 }
