@@ -39,6 +39,8 @@ fn of_key(tally: &mut Tally, random: &mut Random) {
     let (key, n) = (text.as_ptr(), text.len());
     let ours = placed(|x, y, z| unsafe { nori_quadkey2xyz(key, n, x, y, z) });
     tally.call("quadkey2xyz", &text, ours, || tile_of(&text));
+    let ours = placed(|x, y, z| fed(text.as_bytes(), x, y, z));
+    tally.call("key_tile", &text, ours, || tile_of(&text));
     let ours = value(9, |told| unsafe { nori_is_quadkey(key, n, told) });
     tally.call("is_quadkey", &text, ours, || (0, rust::is_quadkey(&text).into()));
     if n > COMPARED.into() {
@@ -50,6 +52,18 @@ fn of_key(tally: &mut Tally, random: &mut Random) {
         turned if turned.is_empty() && n > 0 => refused(5, &junk),
         turned => written(&junk, turned.as_bytes()),
     });
+}
+
+// What the reader tells that was fed each byte. The Rust has none: it is held to what the Rust answers for the whole key.
+fn fed(key: &[u8], x: &mut u32, y: &mut u32, z: &mut u8) -> u8 {
+    let (mut column, mut row, mut count, mut bad) = (0, 0, 0, 0);
+    for &byte in key {
+        let number = nori_key_feed(byte, &mut column, &mut row, &mut count, &mut bad);
+        if number != 0 {
+            return number;
+        }
+    }
+    nori_key_tile(column, row, count, bad, x, y, z)
 }
 
 fn tile_of(text: &str) -> Placed {

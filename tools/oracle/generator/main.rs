@@ -1,10 +1,11 @@
-//! Writes the lists of calls and answers, one of all modules of the port and one of builds, and what their replays print, into the
-//! folder that is named.
+//! Writes the lists of calls and answers, one of all modules of the port, one of builds and one of keys fed byte by byte, and what their
+//! replays print, into the folder that is named.
 mod bbox;
 mod beyond;
 mod builds;
 mod floor;
 mod fns;
+mod key_reader;
 mod lists;
 mod merge;
 mod paper;
@@ -34,6 +35,10 @@ const MODULES: [(&str, fn(&mut List)); 9] = [
     ("merge", merge::write),
 ];
 
+// What has a program of its own, with the name of that.
+const ALONE: [(&str, &str, fn(&mut List)); 2] =
+    [("builds", "replay_builds", builds::write), ("key_reader", "replay_keys", key_reader::write)];
+
 fn main() {
     let folder = std::env::args().nth(1).expect("usage: generator OUT");
     let mut surprises = Vec::new();
@@ -46,9 +51,11 @@ fn main() {
         surprises.extend(list.surprises);
     }
     write(&format!("{folder}/replay_rust"), &calls, &counts);
-    let builds = filled("builds", builds::write);
-    write(&format!("{folder}/replay_builds"), &builds.text(), &format!("{} calls\n", builds.calls()));
-    surprises.extend(builds.surprises);
+    for (name, program, fill) in ALONE {
+        let list = filled(name, fill);
+        write(&format!("{folder}/{program}"), &list.text(), &format!("{} calls\n", list.calls()));
+        surprises.extend(list.surprises);
+    }
     beyond::print();
     for surprise in &surprises {
         eprintln!("{surprise}");

@@ -1,5 +1,5 @@
-//! Document 01's refusals with document 02's limits, by their words alone: 0 where nothing is refused, else the lowest number that
-//! applies. The number that stands for a tile in a list.
+//! Document 01's refusals with document 02's limits, by their words alone: 0 where nothing is refused, else the number
+//! that is tested first. The number that stands for a tile in a list.
 use crate::sample::{Xyz, Zbox};
 
 /// The map's deepest zoom, by document 02.
@@ -40,7 +40,7 @@ pub fn deepest_of(entries: &[u64]) -> u8 {
     entries.iter().map(|&n| tile_of(n).2).max().unwrap_or(0)
 }
 
-/// The lowest number that applies.
+/// The one that is tested first: of document 01's numbers the lowest.
 pub fn lowest(numbers: &[u64]) -> u64 {
     numbers.iter().copied().filter(|&n| n != 0).min().unwrap_or(0)
 }

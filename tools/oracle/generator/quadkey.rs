@@ -32,12 +32,7 @@ fn of_text(list: &mut List, text: &str) {
     let (key, args) = (text.as_bytes(), bytes(text.as_bytes()));
     let refusal = paper::key(key);
     let zoom = if refusal == 4 { 0 } else { key.len() as u8 };
-    let read = || match rust::quadkey2xyz(text) {
-        Ok(t) => Ok(xyz(t)),
-        Err(QuadkeyError::InvalidLength(_)) => Err(4),
-        Err(QuadkeyError::InvalidByte) => Err(5),
-    };
-    list.compare("quadkey2xyz", &args, (refusal, 3), zoom, read, || xyz(words::key_tile(key)));
+    list.compare("quadkey2xyz", &args, (refusal, 3), zoom, || read(text), || xyz(words::key_tile(key)));
     let asked = || vec![rust::is_quadkey(text).into()];
     list.both("is_quadkey", &args, (0, 1), zoom, asked, || vec![(refusal == 0).into()]);
     if refusal == 4 {
@@ -50,6 +45,15 @@ fn of_text(list: &mut List, text: &str) {
     list.compare("quadkey_flipy", &args, (refusal, 1), zoom, flipped, || bytes(&words::flipped_key(key)));
 }
 
+/// What the Rust reads in a text: the tile, or the refusal.
+pub fn read(text: &str) -> Result<Vec<u64>, u64> {
+    match rust::quadkey2xyz(text) {
+        Ok(t) => Ok(xyz(t)),
+        Err(QuadkeyError::InvalidLength(_)) => Err(4),
+        Err(QuadkeyError::InvalidByte) => Err(5),
+    }
+}
+
 // What is not UTF-8 cannot be handed to the Rust.
 fn of_bytes(list: &mut List, key: &[u8]) {
     let args = bytes(key);
@@ -58,8 +62,8 @@ fn of_bytes(list: &mut List, key: &[u8]) {
     list.refuse("quadkey_flipy", &args, paper::key(key), 1);
 }
 
-// Every key of up to four digits, and of each further length the first, the last and six random ones.
-fn keys() -> Vec<Vec<u8>> {
+/// Every key of up to four digits, and of each further length the first, the last and six random ones.
+pub fn keys() -> Vec<Vec<u8>> {
     let mut random = Random::new();
     let mut keys = vec![vec![]];
     let mut longest: Vec<Vec<u8>> = keys.clone();
@@ -74,8 +78,8 @@ fn keys() -> Vec<Vec<u8>> {
     keys
 }
 
-// A bad byte of each kind at the start, inside and at the end, also of thirty bytes; one more and longer ones; bytes that are not UTF-8.
-fn no_keys() -> Vec<Vec<u8>> {
+/// A bad byte of each kind at the start, inside and at the end, also of thirty bytes; one more and longer ones; bytes that are not UTF-8.
+pub fn no_keys() -> Vec<Vec<u8>> {
     let mut keys = Vec::new();
     for bad in ["/", "4", "3x", " ", "-", "\0", "\n", "\u{7f}", "p", "\u{80}", "é", "０", "😀"] {
         let bad = bad.as_bytes();

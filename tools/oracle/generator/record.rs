@@ -17,6 +17,8 @@ pub struct List {
     // Of each function: the calls run, ruled, refused and claimed.
     counts: BTreeMap<String, [usize; 4]>,
     builds: usize,
+    // How many times the Rust was run for the first bytes of a key that is fed byte by byte.
+    pub prefixes: usize,
     seen: HashSet<String>,
     // Calls inside the domain at which the Rust stops, or is otherwise than document 01 or a bitmap says; and answers that
     // come out differently in different ways.
@@ -112,8 +114,13 @@ impl List {
 
     /// A call that document 02 answers or claims something of, with the answer by its words.
     pub fn claim(&mut self, name: &str, args: &[u64], values: &[u64]) {
+        self.tell(name, args, 0, values);
+    }
+
+    /// The same, refused or not, and with the values that the refusal has: a refused feed hands its reader back.
+    pub fn tell(&mut self, name: &str, args: &[u64], refusal: u64, values: &[u64]) {
         let Some(call) = self.first(name, args) else { return };
-        self.claimed += &line(&call, 0, values);
+        self.claimed += &line(&call, refusal, values);
         self.counts.entry(name.to_string()).or_default()[3] += 1;
     }
 
@@ -155,13 +162,18 @@ impl List {
 
     pub fn print_counts(&self) {
         for (name, [run, ruled, refused, claimed]) in &self.counts {
-            println!("    {name}: {run} run, {ruled} answers and {refused} refusals by document 01");
+            if run + ruled + refused > 0 {
+                println!("    {name}: {run} run, {ruled} answers and {refused} refusals by document 01");
+            }
             if *claimed > 0 {
                 println!("    {name}: {claimed} answers by document 02");
             }
         }
         if self.builds > 0 {
             println!("    in {} builds", self.builds);
+        }
+        if self.prefixes > 0 {
+            println!("    the Rust was run for {} prefixes", self.prefixes);
         }
     }
 }
