@@ -22,6 +22,13 @@ inline Keys quadkeys(const std::vector<Tile>& tiles) {
   k.at.push_back(k.bytes.size());
   return k;
 }
+
+// A reader of keys that is fed byte by byte, as the library's is in numbers.
+struct Reader {
+  u32 x, y;
+  u8 count, bad;
+};
+
 inline u64 fold(u64 h, u64 v) { return h + (v ^ v >> 29) * 0x9E3779B97F4A7C15ull; }
 inline u64 fold_tile(u64 h, Tile t) { return fold(h, (u64)t.x << 34 ^ (u64)t.y << 5 ^ t.z); }
 
@@ -110,12 +117,26 @@ void time_calls(const char* peer, const Job& j, P p) {
     for (u64 r : rmids) h = fold_tile(h, p.rmid2xyz(r));
     return h;
   });
-  time_one(peer, j, "quadkey2xyz", n, [&] {
+  auto read = [&] {
     u64 h = 0;
     for (size_t i = 0; i < n; i++)
       h = fold_tile(h, p.quadkey2xyz(keys.bytes.data() + keys.at[i], keys.at[i + 1] - keys.at[i]));
     return h;
-  });
+  };
+  time_one(peer, j, "quadkey2xyz", n, read);
+  // For each byte of the keys: read whole, and fed byte by byte to a reader that tells at the end of each key.
+  size_t bytes = keys.bytes.size();
+  time_one(peer, j, "quadkey2xyz/byte", bytes, read);
+  if (p.has_reader())
+    time_one(peer, j, "key_feed/byte", bytes, [&] {
+      u64 h = 0;
+      for (size_t i = 0; i < n; i++) {
+        Reader r = {};
+        for (size_t k = keys.at[i]; k < keys.at[i + 1]; k++) p.key_feed(keys.bytes[k], r);
+        h = fold_tile(h, p.key_tile(r));
+      }
+      return h;
+    });
   time_one(peer, j, "xyz2quadkey", n, [&] {
     u64 h = 0;
     char buf[32];
@@ -193,6 +214,18 @@ struct LimitCalls {
     if (bad) return NO_TILE;
     return {gather(m), gather(m >> 1), (u8)n};
   }
+  bool has_reader() { return true; }
+  void key_feed(u8 byte, Reader& r) {
+    u32 digit = byte ^ 0x30;
+    if (r.count >= DEEPEST) {
+      r = {0, 0, (u8)(DEEPEST + 1), 0};
+    } else if (r.bad || digit > 3) {
+      r = {0, 0, (u8)(r.count + 1), 1};
+    } else {
+      r = {2 * r.x + (digit & 1), 2 * r.y + (digit >> 1), (u8)(r.count + 1), 0};
+    }
+  }
+  Tile key_tile(const Reader& r) { return r.count > DEEPEST || r.bad ? NO_TILE : Tile{r.x, r.y, r.count}; }
   size_t xyz2quadkey(Tile t, char* out) {
     u64 m = morton(t.x, t.y);
     for (int i = t.z - 1; i >= 0; i--) {

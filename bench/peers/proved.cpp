@@ -4,6 +4,10 @@
 #include "../../bindings/c/noripliers.h"
 #include "calls.hpp"
 
+// Builds up to 0.5.0 have no reader of keys.
+#pragma weak nori_key_feed
+#pragma weak nori_key_tile
+
 static List out(8 << 20);
 
 // No call of the benchmark may be refused.
@@ -54,6 +58,12 @@ struct ProvedCalls {
     Tile t;
     nori_quadkey2xyz((const u8*)s, n, &t.x, &t.y, &t.z);
     return t;
+  }
+  bool has_reader() { return nori_key_feed && nori_key_tile; }
+  void key_feed(u8 byte, Reader& r) { accepted(nori_key_feed(byte, &r.x, &r.y, &r.count, &r.bad), 0); }
+  Tile key_tile(const Reader& r) {
+    Tile t;
+    return nori_key_tile(r.x, r.y, r.count, r.bad, &t.x, &t.y, &t.z) ? NO_TILE : t;
   }
   size_t xyz2quadkey(Tile t, char* o) {
     u64 n;

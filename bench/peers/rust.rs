@@ -201,12 +201,14 @@ fn long_calls(j: &Job) {
     let tiles: Vec<Tile> = j.entries.iter().map(|&e| tile_of(e)).collect();
     let keys: Vec<String> = tiles.iter().map(|t| u::xyz2quadkey(t.x, t.y, t.z)).collect();
     let n = tiles.len();
-    one("rust", j, "quadkey2xyz", n, || {
+    let read = || {
         keys.iter().fold(0, |h, k| {
             let (x, y, z) = u::quadkey2xyz(k).unwrap();
             fold_tile(h, x, y, z)
         })
-    });
+    };
+    one("rust", j, "quadkey2xyz", n, read);
+    one("rust", j, "quadkey2xyz/byte", keys.iter().map(String::len).sum(), read);
     one("rust", j, "xyz2quadkey", n, || {
         tiles.iter().fold(0, |h, t| {
             let k = u::xyz2quadkey(t.x, t.y, t.z);
