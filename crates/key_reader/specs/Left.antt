@@ -1,6 +1,6 @@
 -- Which readers bytes leave, by their three kinds, and that a reader stands for all the bytes that leave it.
---   Kind bytes   a key, bytes with a bad one among them, or too many
---   ReaderKind r       what some bytes leave, of each kind
+--   Kind bytes     a key, bytes with a bad one among them, or too many
+--   ReaderKind r   what some bytes leave, of each kind
 use mathlib.Core.Path.{_≡_, refl, sym, _∙_}
 use mathlib.Core.Bool.{Bool, true, false, cond, not, _&&_}
 use mathlib.Core.List.{List, [], _∷_, _++_}

@@ -86,6 +86,7 @@ impl KeyReader {
         self.x == 0 && self.y == 0
     }
 
+    // The same of a reader that bytes have left: 16 is not tested again.
     fn told(self) -> TileAnswer
         requires { ⌜ isReader self ≡ true ⌝ }
         ensures { λ r. ⌜ tileCase r ≡ keyTile (leftBy self) ⌝ }

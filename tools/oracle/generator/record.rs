@@ -173,7 +173,7 @@ impl List {
             println!("    in {} builds", self.builds);
         }
         if self.prefixes > 0 {
-            println!("    the Rust was run for {} prefixes", self.prefixes);
+            println!("    the Rust was run {} times for the bytes so far", self.prefixes);
         }
     }
 }
