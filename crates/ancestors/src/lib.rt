@@ -1,4 +1,6 @@
 // `simplify_v1`: a tile goes if the list holds an ancestor of it far enough above, and then families are joined until nothing changes.
+#![tactic(auto)]
+
 ghost use Rattle.std.specs.Prelude.{◌≡◌, ◌+◌, ◌/◌, ◌^◌, ◌<◌, length};
 ghost use Rattle.constants.specs.Limits.{max_zoom};
 ghost use Rattle.quadtree.specs.Lists.{TileNumbers};

@@ -9,7 +9,7 @@ use Rattle.bits.specs.Tests.{and_parts, not_true, in_map, into_map}
 use Rattle.constants.specs.Limits.{max_zoom}
 use Rattle.difference.specs.Ground.{Needed, left_covers, left_needed, left_valid, in_left_all, left_all_in}
 use Rattle.difference.specs.Left.{left_of, without}
-use Rattle.ground.specs.Cells.{first_cell, cell_on_map, full_cells}
+use Rattle.ground.proofs.Cells.{first_cell, cell_on_map, full_cells}
 use Rattle.ground.specs.Largest.{Full, Cover}
 use Rattle.quadtree.specs.Numbers.{location_of, location_tile}
 use Rattle.quadtree.specs.OneTile.{location_tile_lem}

@@ -5,7 +5,7 @@ use Rattle.std.proofs.Math.Bool.{or-true}
 use Rattle.std.proofs.Math.Decide.{dec_le}
 use Rattle.bits.specs.Tests.{and_parts}
 use Rattle.common.specs.Common.{held_by, shared}
-use Rattle.ground.specs.Cells.{full_cells, cells_full}
+use Rattle.ground.proofs.Cells.{full_cells, cells_full}
 use Rattle.ground.specs.Largest.{Full, Cover}
 use Rattle.tile.specs.OnMap.{tile_at}
 use Rattle.tile.specs.declared.Tile.{Tile}

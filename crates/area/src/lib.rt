@@ -1,8 +1,10 @@
 // Union, common part and difference of two settled lists in lent memory, and whether a list is settled.
+#![tactic(auto)]
+
 ghost use Rattle.std.specs.Prelude.{◌≡◌};
 ghost use Rattle.area.specs.Area.{union_of, common_of, difference_of};
 ghost use Rattle.errors.specs.Cases.{bool_case, left};
-ghost use Rattle.settled.specs.Answers.{isSettledOf};
+ghost use Rattle.settled.specs.Answers.{is_settled_of};
 
 use errors::{BoolAnswer, Count};
 use work::{FIRST_VALUE, Overlay, Work};
@@ -30,7 +32,7 @@ pub fn difference(a: &[u64], b: &[u64], out: &mut [u64]) -> Count
 
 // Whether a list is settled: strictly in order, no tile beside its own ancestor, no four siblings together.
 pub fn is_settled(list: &[u64]) -> BoolAnswer
-    ensures { bool_case result ≡ isSettledOf list.now }
+    ensures { bool_case result ≡ is_settled_of list.now }
 {
     let mut none = [0u64; 1];
     let r = boundary::run(list, &list[..0], Work::Tested, 0, &mut none);

@@ -2,4 +2,3 @@ pub mod Box
 pub mod Laws
 pub mod Order
 pub mod Rust
-pub mod Theorems

@@ -12,6 +12,7 @@ pub first_known : (x y : Float) → T (le x y) → T (not (is_nan x))
 unfolding le is_nan
 first_known (inf s) y h = tt
 first_known (fin s m e) y h = tt
+first_known nan y h = elim h [ ]
 
 pub second_known : (x y : Float) → T (le x y) → T (not (is_nan y))
 unfolding le is_nan
@@ -19,6 +20,7 @@ second_known x (inf s) h = tt
 second_known x (fin s m e) h = tt
 second_known (inf s) nan h = h
 second_known (fin s m e) nan h = h
+second_known nan nan h = elim h [ ]
 
 pub lt_le : (x y : Float) → T (lt x y) → T (le x y)
 unfolding le
@@ -115,6 +117,17 @@ le_through (fin s m e) (fin t n d) (fin u l f) h k =
     (trans_fin s t u (m * up e) (n * up d) (l * up f) (down e) (down d) (down f) (down_pos e) (down_pos d) (down_pos f)
     (read s (m * up e * down d) t (n * up d * down e) h)
     (read t (n * up d * down f) u (l * up f * down d) k))
+le_through nan y z h k = elim h [ ]
+le_through (inf false) nan z h k = elim h [ ]
+le_through (inf false) (inf true) z h k = elim h [ ]
+le_through (inf false) (fin t n d) z h k = elim h [ ]
+le_through (fin s m e) nan z h k = elim h [ ]
+le_through (fin s m e) (inf false) nan h k = elim k [ ]
+le_through (fin s m e) (inf false) (inf true) h k = elim k [ ]
+le_through (fin s m e) (inf false) (fin u n f) h k = elim k [ ]
+le_through (fin s m e) (inf true) z h k = elim h [ ]
+le_through (fin s m e) (fin t n d) nan h k = elim k [ ]
+le_through (fin s m e) (fin t n d) (inf true) h k = elim k [ ]
 
 not_below : (s : Bool) (a : ℕ) (t : Bool) (b : ℕ) → Le s a t b → T (not (below t b s a))
 not_below false a false b h = not_T (ltb b a) (λ l. omega (arith, ltb→lt b a l))
@@ -131,6 +144,13 @@ le_not_above (inf false) (inf false) h = tt
 le_not_above (fin s m e) (inf false) h = tt
 le_not_above (fin s m e) (fin t n d) h =
     not_below s (m * up e * down d) t (n * up d * down e) (read s (m * up e * down d) t (n * up d * down e) h)
+le_not_above nan y h = elim h [ ]
+le_not_above (inf false) nan h = elim h [ ]
+le_not_above (inf false) (inf true) h = elim h [ ]
+le_not_above (inf false) (fin t n d) h = elim h [ ]
+le_not_above (inf true) nan h = elim h [ ]
+le_not_above (fin s m e) nan h = elim h [ ]
+le_not_above (fin s m e) (inf true) h = elim h [ ]
 
 ordered : (a b : ℕ) → (a ≤ b) ⊎ (b ≤ a)
 ordered a b = go (leb a b) (leb→le a b) (nleb→lt a b)
@@ -159,6 +179,10 @@ le_either (fin s m e) (fin t n d) h k =
     let a = m * up e * down d in
     let b = n * up d * down e in
     elim (total_fin s a t b) [ inl p ↦ inl (write s a t b p) | inr q ↦ inr (write t b s a q) ]
+le_either nan y h k = elim h [ ]
+le_either (inf false) nan h k = elim k [ ]
+le_either (inf true) nan h k = elim k [ ]
+le_either (fin s m e) nan h k = elim k [ ]
 
 pub le_itself : (x : Float) → T (not (is_nan x)) → T (le x x)
 le_itself x h = elim (le_either x x h h) [ inl p ↦ p | inr q ↦ q ]

@@ -1,4 +1,4 @@
--- What the Rust's text does, test by test in its order; `if t { return true; } false` is t. specs/Theorems.antt has that these are the
+-- What the Rust's text does, test by test in its order; `if t { return true; } false` is t. proofs/Theorems.antt has that these are the
 -- definitions. `new`, `is_antimeridian`, `crosses_antimeridian` and `bboxes` are not here: `box`, `crosses` and `parts` are their
 -- text.
 use Rattle.std.specs.Prelude.{Bool, false, ◌&&◌, ◌||◌, cond}

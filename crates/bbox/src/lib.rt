@@ -1,17 +1,19 @@
 // Boxes of degrees, `bbox.rs`: what lies in a box, which boxes meet, and the parts of one that crosses the antimeridian.
 // A comparison with NaN is false. `&` and `|` stand for the Rust's `&&` and `||`: they join comparisons, which do nothing else.
+#![tactic(auto)]
+
 ghost use Rattle.std.specs.Prelude.{◌≡◌};
 ghost use Rattle.bbox.specs.Box.{box, crosses, contains_point, contains_box, is_within_of, meets, parts, held};
 
 // A place on the map, in degrees.
-#[derive(Drop)]
+#[derive(Clone, Copy)]
 pub struct LngLat {
     pub lng: f64,
     pub lat: f64,
 }
 
 // A box by its four edges, in degrees.
-#[derive(Drop)]
+#[derive(Clone, Copy)]
 pub struct BBox {
     pub west: f64,
     pub south: f64,
@@ -20,7 +22,7 @@ pub struct BBox {
 }
 
 // One box or two: with a count of 1 the second is all zeros.
-#[derive(Drop)]
+#[derive(Clone, Copy)]
 pub struct BBoxes {
     pub first: BBox,
     pub second: BBox,

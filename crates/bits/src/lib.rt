@@ -1,4 +1,6 @@
 // Powers of two that no zoom can overflow: past the width they are 0, as a shifted number is.
+#![tactic(auto)]
+
 ghost use Rattle.std.specs.Prelude.{◌≡◌, ◌^◌, ◌%◌};
 
 // 2^k in 32 bits, 0 where it does not fit.

@@ -1,5 +1,7 @@
 // The boundary of the calls on lists: it owns the scratch. Entries come in and go out; what works in the scratch knows the locations of
 // their tiles.
+#![tactic(auto)]
+
 ghost use Rattle.std.specs.Prelude.{◌≡◌, suc, ◌+◌, ◌*◌, ◌≤◌};
 ghost use Rattle.boundary.specs.Rungs.{tiny_rung, short_rung, medium_rung, long_rung, longer_rung};
 ghost use Rattle.constants.specs.Limits.{max_entries};
@@ -23,7 +25,7 @@ const LONG: usize = 4096;
 
 const LONGER: usize = 32768;
 
-#[derive(Drop)]
+#[derive(Clone, Copy)]
 enum Rung {
     Short,
     Medium,

@@ -1,6 +1,5 @@
 pub mod InTurn
 pub mod Build
 pub mod Account
-pub mod Beside
 pub mod Refusals
 pub mod Demand3

@@ -1,4 +1,6 @@
 // What the exported calls of bbox.rs do: each asks the crate `bbox` and hands the answer on in numbers.
+#![tactic(auto)]
+
 ghost use Rattle.std.specs.Prelude.{◌≡◌};
 ghost use Rattle.bbox.specs.Box.{box, contains_box, contains_point, crosses, held, is_within_of, meets, parts, point};
 ghost use Rattle.c_bbox.specs.Boxes.{boxes_at};

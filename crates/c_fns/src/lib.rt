@@ -1,4 +1,6 @@
 // What the exported calls of fns.rs on the tiles around a tile do: each asks the library and hands the answer on in numbers.
+#![tactic(auto)]
+
 ghost use Rattle.std.specs.Prelude.{◌≡◌, ◌+◌};
 ghost use Rattle.c_give.specs.Exported.{answered, as_byte, answered_in, never};
 ghost use Rattle.c_fns.specs.Ancestor.{ancestor_at};

@@ -1,4 +1,6 @@
 // What the exported calls on form lines do: each asks the library and hands the answer on in numbers.
+#![tactic(auto)]
+
 ghost use Rattle.std.specs.Prelude.{◌≡◌, [], take};
 ghost use Rattle.c_give.specs.Exported.{answered_in};
 ghost use Rattle.errors.specs.Answer.{written};

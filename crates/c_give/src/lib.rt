@@ -1,4 +1,6 @@
 // Answers that more than one crate hands on: the number comes back, the value goes behind the pointers.
+#![tactic(auto)]
+
 ghost use Rattle.std.specs.Prelude.{◌≡◌};
 ghost use Rattle.errors.specs.Cases.{bool_case, count_case, u32_case, u64_case};
 ghost use Rattle.c_give.specs.Exported.{answered, as_byte, never};

@@ -1,4 +1,6 @@
 // What the exported calls of fns.rs on the numbers that stand for tiles do: each asks the crate `ids` and hands the answer on in numbers.
+#![tactic(auto)]
+
 ghost use Rattle.std.specs.Prelude.{◌≡◌};
 ghost use Rattle.c_give.specs.Exported.{answered};
 ghost use Rattle.c_ids.specs.OffsetZoom.{offset_zoom_at};

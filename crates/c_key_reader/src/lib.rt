@@ -1,4 +1,6 @@
 // What the exported calls on a reader of keys do: each asks `key_reader` and hands the answer on in numbers.
+#![tactic(auto)]
+
 ghost use Rattle.std.specs.Prelude.{◌≡◌};
 ghost use Rattle.c_give.specs.Exported.{answered};
 ghost use Rattle.c_key_reader.specs.Numbers.{fed_numbers, numbers_at, told_numbers};

@@ -1,10 +1,12 @@
 // What the exported calls of merge.rs and on areas do: each asks the library and hands the answer on in numbers.
+#![tactic(auto)]
+
 ghost use Rattle.std.specs.Prelude.{◌≡◌};
 ghost use Rattle.area.specs.Area.{common_of, difference_of, union_of};
 ghost use Rattle.c_give.specs.Exported.{answered, as_byte, answered_in};
 ghost use Rattle.c_merge.specs.Merged.{given_merge, in_numbers};
 ghost use Rattle.merge.specs.Merge.{merge_of, simplify_of, simplify_v1_of};
-ghost use Rattle.settled.specs.Answers.{isSettledOf};
+ghost use Rattle.settled.specs.Answers.{is_settled_of};
 
 use merge::MergeAnswer;
 use tile::OptionU8;
@@ -64,7 +66,7 @@ pub fn difference(a: &[u64], b: &[u64], out: &mut [u64], count: &mut u64) -> u8
 }
 
 pub fn is_settled(list: &[u64], settled: &mut u8) -> u8
-    ensures { answered result settled.new ≡ as_byte (isSettledOf list.now) }
+    ensures { answered result settled.new ≡ as_byte (is_settled_of list.now) }
 {
     c_give::told(area::is_settled(list), settled)
 }

@@ -1,4 +1,6 @@
 // What the exported calls of parent.rs and sibling_relationship.rs do: each asks the library and hands the answer on in numbers.
+#![tactic(auto)]
+
 ghost use Rattle.std.specs.Prelude.{◌≡◌};
 ghost use Rattle.c_give.specs.Exported.{answered, never};
 ghost use Rattle.c_parent.specs.Cursor.{held_at, held_of, holding, next_at, next_numbers, parents_numbers};

@@ -1,4 +1,6 @@
 // What the exported calls of quadkey.rs do: each asks `quadkey`, `key_reader` or `key_parts`, and hands the answer on in numbers.
+#![tactic(auto)]
+
 ghost use Rattle.std.specs.Prelude.{◌≡◌};
 ghost use Rattle.c_give.specs.Exported.{answered, as_byte, answered_in, never};
 ghost use Rattle.c_quadkey.specs.Part.{part_length_of};

@@ -1,4 +1,6 @@
 // What the exported calls of tile.rs do: each asks the crate `tile` and hands the answer on in numbers.
+#![tactic(auto)]
+
 ghost use Rattle.std.specs.Prelude.{◌≡◌};
 ghost use Rattle.c_give.specs.Exported.{answered, never};
 ghost use Rattle.c_tile.specs.Order.{order_number};

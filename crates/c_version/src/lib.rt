@@ -1,4 +1,6 @@
 // The version of the library, which the header, the archive and the Rust crate have in common.
+#![tactic(auto)]
+
 ghost use Rattle.std.specs.Prelude.{◌≡◌};
 ghost use Rattle.c_give.specs.Exported.{answered, never};
 ghost use Rattle.c_version.specs.Version.{version_number};

@@ -1,4 +1,6 @@
 // What the exported calls of tile_zbox.rs on boxes do: each asks the library and hands the answer on in numbers.
+#![tactic(auto)]
+
 ghost use Rattle.std.specs.Prelude.{◌≡◌};
 ghost use Rattle.c_give.specs.Exported.{answered, as_byte, answered_in};
 ghost use Rattle.tile_zbox_around.specs.Around.{from_tiles_of};

@@ -1,4 +1,6 @@
 // What the exported calls of tile_zbox.rs on cursors do: each asks the library and hands the answer on in numbers.
+#![tactic(auto)]
+
 ghost use Rattle.std.specs.Prelude.{◌≡◌};
 ghost use Rattle.c_give.specs.Exported.{answered};
 ghost use Rattle.c_zbox_iter.specs.Step.{boxes_step_numbers, step_at, step_numbers};

@@ -1,4 +1,6 @@
 // What the exported calls of zoom.rs do: each asks the crate `zoom` or `zoom_ranges` and hands the answer on in numbers.
+#![tactic(auto)]
+
 ghost use Rattle.std.specs.Prelude.{◌≡◌, suc, ◌-◌, ◌^◌};
 ghost use Rattle.std.specs.Int.Bits.{bit_and};
 ghost use Rattle.c_give.specs.Exported.{answered, answered_in, never};

@@ -1,9 +1,9 @@
 -- What the digit of a tile tells of it, for those that hold tiles as Morton codes.
-use Rattle.std.specs.Prelude.{◌≡◌, refl, List, ℕ, zero, suc, ◌+◌, ◌*◌, ◌/◌, ◌%◌, ◌^◌, ◌≤◌, ◌<◌, get_or}
-use Rattle.std.proofs.Common.{sym, ap, ◌∙◌, div-one, arith}
+use Rattle.std.specs.Prelude.{◌≡◌, List, ℕ, zero, suc, ◌+◌, ◌*◌, ◌/◌, ◌%◌, ◌<◌, get_or}
+use Rattle.std.proofs.Common.{ap, div-one, arith}
 use Rattle.fns.specs.Laws.{parent_accepted}
 use Rattle.fns.specs.Parent.{parent_given}
-use Rattle.fns.specs.Theorems.{the_digits_under_any_root}
+use Rattle.fns.proofs.Theorems.{the_digits_under_any_root}
 use Rattle.quadkey.specs.Key.{key_from}
 use Rattle.quadtree.specs.Lists.{TileNumber}
 use Rattle.quadtree.specs.Numbers.{OfMap, morton_at, morton_of, morton_tile}

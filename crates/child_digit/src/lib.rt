@@ -1,4 +1,6 @@
 // Which child of its parent a tile is: the digit by which `parent` leaves it. Those that group siblings ask here.
+#![tactic(auto)]
+
 ghost use Rattle.std.specs.Prelude.{◌≡◌, ◌<◌};
 ghost use Rattle.child_digit.specs.Digit.{digit_of};
 ghost use Rattle.quadtree.specs.Lists.{TileNumber};

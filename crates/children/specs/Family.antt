@@ -1,7 +1,7 @@
 -- The four children of a tile, as the code computes them, and how many descendants it has below them.
 use Rattle.std.specs.Prelude.{◌≡◌, refl, Bool, true, false, List, ℕ, zero, suc, ◌+◌, ◌*◌, ◌/◌, ◌%◌, ◌^◌, ◌≤◌, ◌<◌, ltb, length, get_or}
 use Rattle.std.proofs.Common.{◌∙◌, pow-suc, mul_comm, mul-le-mul_right, add-one, arith}
-use Rattle.std.proofs.lemmas.List.{length_map}
+use Rattle.std.proofs.lemmas.List.{length-map}
 use Rattle.constants.specs.Limits.{max_zoom}
 use Rattle.errors.specs.Answer.{◌when◌, ◌else◌}
 use Rattle.tile.specs.OnMap.{OnMap, tile_refusal, too_deep_lem}
@@ -22,7 +22,7 @@ family_four (suc turn) = refl
 
 pub children_length : (turn d x y z : ℕ) → length (entries_of (descendants (family_of turn) d x y z)) ≡ 4 ^ d
 children_length turn d x y z =
-    length_map (descendants (family_of turn) d x y z) _ ∙ descend_length (family_of turn) (family_four turn) d x y z
+    length-map (descendants (family_of turn) d x y z) _ ∙ descend_length (family_of turn) (family_four turn) d x y z
 
 -- the column and the row of a family's child, as the code computes them
 pub family_place : (turn k : ℕ) → turn < 2 → k < 4

@@ -1,7 +1,7 @@
 -- Lists that are gathered: in two parts, how long they are, and their entries.
 use Rattle.std.specs.Prelude.{◌≡◌, refl, List, [], ◌∷◌, ◌++◌, ℕ, ◌*◌, length}
 use Rattle.std.proofs.Common.{ap, ◌∙◌, append_assoc, append-nil, arith, length-append}
-use Rattle.std.proofs.lemmas.List.{map_append}
+use Rattle.std.proofs.lemmas.List.{map-append}
 use Rattle.tile.specs.declared.Tile.{Tile}
 use Rattle.children.specs.Children.{gather}
 use Rattle.ids.specs.Entry.{entries_of}
@@ -24,4 +24,4 @@ gather_length f n (q ∷ qs) h = rw (length-append, h q, gather_length f n qs h)
 pub entries_gather : (f : ℕ → List Tile) (qs : List ℕ) → entries_of (gather f qs) ≡ gather (λ q. entries_of (f q)) qs
 unfolding gather
 entries_gather f [] = refl
-entries_gather f (q ∷ qs) = map_append _ (f q) (gather f qs) ∙ ap (λ (l : List ℕ). entries_of (f q) ++ l) (entries_gather f qs)
+entries_gather f (q ∷ qs) = map-append _ (f q) (gather f qs) ∙ ap (λ (l : List ℕ). entries_of (f q) ++ l) (entries_gather f qs)

@@ -2,11 +2,12 @@
 use Rattle.std.specs.Prelude.{◌≡◌, refl, ◌↔◌, ℕ, suc, ◌+◌, ◌-◌, ◌*◌, ◌/◌, ◌%◌, ◌^◌, ◌≤◌, ◌<◌, length, take, drop, get_or}
 use Rattle.std.proofs.Common.{sym, ap, ◌∙◌, div-one, arith, lt-ltb, le-ltb}
 use mathlib.Core.List.{List, [], ◌∷◌, ◌++◌, map, flat_map, Memᴰ}
-use Rattle.std.proofs.lemmas.List.{length_map}
+use Rattle.std.proofs.lemmas.List.{length-map}
 use Rattle.bits.specs.Bits.{bit}
 use Rattle.bits.specs.Checked.{Run, returns, fits}
 use Rattle.constants.specs.Limits.{max_zoom}
-use Rattle.ids.specs.Entry.{entry_of, entry_tile, entry_refusal, entry_accepted, entry_tile_again, entries_of}
+use Rattle.ids.specs.Entry.{entry_of, entry_tile, entry_refusal, entries_of}
+use Rattle.ids.proofs.EntryLemmas.{entry_accepted, entry_tile_again}
 use Rattle.ids.specs.Rmid.{level_start}
 use Rattle.tile.specs.Option.{unwrap_or}
 use Rattle.tile.specs.OnMap.{OnMap, tile_at, on_map_accepted}
@@ -120,7 +121,7 @@ a_target_too_deep family x y z target memory h = rw (lt-ltb _ _ h)
 module _ (family : List ℕ) (size : length family ≡ 4) {x y z : ℕ} (m : OnMap x y z) (target : ℕ) (h : target ≤ max_zoom)
     (memory : List ℕ) where
   count : length (entries_of (descendants family (target - z) x y z)) ≡ 4 ^ (target - z)
-  count = length_map (descendants family (target - z) x y z) _ ∙ descend_length family size (target - z) x y z
+  count = length-map (descendants family (target - z) x y z) _ ∙ descend_length family size (target - z) x y z
 
   pub all_are_written : 4 ^ (target - z) ≤ length memory
       → children_of family x y z target memory

@@ -1,4 +1,6 @@
 // The descendants of a tile at a deeper zoom, as list entries: clockwise in each family, or in the order of the quadkey's digits.
+#![tactic(auto)]
+
 ghost use Rattle.std.specs.Prelude.{◌≡◌, ◌+◌, ◌-◌, ◌^◌, ◌<◌, ◌≤◌, length};
 ghost use Rattle.constants.specs.Limits.{max_zoom};
 ghost use Rattle.errors.specs.Cases.{left};

@@ -1,4 +1,6 @@
 // The common part of two settled sets, by the locations of their tiles along the quadtree.
+#![tactic(auto)]
+
 ghost use Rattle.std.specs.Prelude.{◌+◌, ◌≤◌, length};
 ghost use Rattle.quadtree.specs.Locations.{Runs};
 ghost use Rattle.common.specs.Common.{Common};

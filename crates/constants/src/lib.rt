@@ -1,4 +1,5 @@
 // The limits of the papers. Each stands here once for the code, and once in specs/ for the promises.
+#![tactic(auto)]
 
 // The deepest zoom.
 pub const MAX_ZOOM: u8 = 30;

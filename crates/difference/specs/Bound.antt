@@ -2,7 +2,7 @@
 use Rattle.std.specs.Prelude.{◌≡◌, refl, Bool, true, false, cond, ◌||◌, ℕ, zero, suc, ◌+◌, ◌-◌, ◌*◌, ◌≤◌, ◌<◌, length, get_or}
 use Rattle.std.proofs.Common.{ap, mul-add, suc-mul, mul-le-mul_left, mul-le-mul_right, arith, length-append}
 use mathlib.Core.List.{List, [], ◌∷◌, map, Memᴰ}
-use Rattle.std.proofs.lemmas.List.{length_map}
+use Rattle.std.proofs.lemmas.List.{length-map}
 use Rattle.bits.specs.Tests.{any_of}
 use Rattle.constants.specs.Limits.{max_zoom}
 use Rattle.quadtree.specs.Numbers.{OfMap, location_tile}
@@ -184,11 +184,11 @@ module _ (kept : List ℕ) (runs : Runs kept) where
   pub without_length : (gone : List ℕ) → Runs gone → length (without kept gone) ≤ length kept + 3 * (max_zoom * length gone)
   without_length gone others =
       let h : held_by (map location_tile kept) (map location_tile gone) ≤ length gone =
-      rw (length_map gone location_tile) at
+      rw (length-map gone location_tile) at
       (held_length (map location_tile gone) (λ g m. let s = gone_at gone m in rw s.2 (others.each s.0 s.1).of_map)) in
       omega (
         arith,
         all_length max_zoom (map location_tile gone) (map location_tile kept),
         mul-le-mul_left max_zoom h,
-        length_map kept location_tile,
+        length-map kept location_tile,
       )

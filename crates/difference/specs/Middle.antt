@@ -1,7 +1,7 @@
 -- The middle of `left`: the first i tiles are walked, and their locations are written.
 use Rattle.std.specs.Prelude.{◌≡◌, List, [], ◌∷◌, ◌++◌, map, ℕ, ◌+◌, ◌-◌, ◌≤◌, ◌<◌, length, take, get_or}
 use Rattle.std.proofs.Common.{sym, ap, ◌∙◌, append_assoc, append-nil, add-one, take_all, take-suc}
-use Rattle.std.proofs.lemmas.List.{map_append}
+use Rattle.std.proofs.lemmas.List.{map-append}
 use native.Mathlib.Omega.{arith}
 use Rattle.std.proofs.lemmas.List.Edits.{sets}
 use Rattle.constants.specs.Limits.{max_zoom}
@@ -26,7 +26,7 @@ left_last D gone (s ∷ l) t =
 without_next : (kept gone : List ℕ) (i : ℕ) → i < length kept
     → without (take (i + 1) kept) gone ≡ without (take i kept) gone ++ left_at gone (get_or kept i 0)
 without_next kept gone i h =
-    rw (add-one i, take-suc kept i 0 h, map_append location_tile (take i kept) (get_or kept i 0 ∷ []))
+    rw (add-one i, take-suc kept i 0 h, map-append location_tile (take i kept) (get_or kept i 0 ∷ []))
     (left_last max_zoom (map location_tile gone) (map location_tile (take i kept)) (tiles kept i))
 
 module _ (kept gone before : List ℕ) where

@@ -1,7 +1,7 @@
 -- The walk along the quadtree: how far it has come, and what it writes on the way.
 use Rattle.std.specs.Prelude.{◌≡◌, refl, Bool, true, false, List, [], ◌∷◌, ◌++◌, map, ℕ, suc, ◌+◌, ◌-◌, ◌*◌, ◌≤◌, ◌<◌, length, drop, set}
 use Rattle.std.proofs.Common.{sym, ap, ◌∙◌, add-zero, arith, length-append}
-use Rattle.std.proofs.lemmas.List.{map_append, length_map}
+use Rattle.std.proofs.lemmas.List.{map-append, length-map}
 use Rattle.std.proofs.Math.Decide.{dec_lt}
 use Rattle.std.proofs.lemmas.List.Edits.{sets, sets-eq}
 use Rattle.std.proofs.Math.Seq.{length-sets}
@@ -91,6 +91,6 @@ pub wrote_both : {a b : List Tile} {i j k : ℕ} {l m n : List ℕ} → Wrote a 
 wrote_both {a} {b} {i} {j} {k} {l} {m} {n} v w = record {
   counted = omega (arith, v.counted, w.counted, length-append a b);
   written =
-      let e : j ≡ i + length (map location_of a) = v.counted ∙ ap (λ (c : ℕ). i + c) (sym (length_map a location_of)) in
-      rw (map_append location_of a b, sets_append l i (map location_of a) (map location_of b), ← e, ← v.written) w.written;
+      let e : j ≡ i + length (map location_of a) = v.counted ∙ ap (λ (c : ℕ). i + c) (sym (length-map a location_of)) in
+      rw (map-append location_of a b, sets_append l i (map location_of a) (map location_of b), ← e, ← v.written) w.written;
 }

@@ -1,4 +1,6 @@
 // What is left of the tiles of one settled list when those of another are taken away, by their locations along the quadtree.
+#![tactic(auto)]
+
 ghost use Rattle.std.specs.Prelude.{◌≡◌, map, ◌+◌, ◌*◌, ◌^◌, ◌≤◌, ◌<◌, length, set};
 ghost use Rattle.std.proofs.lemmas.List.Edits.{sets};
 ghost use Rattle.quadtree.specs.Numbers.{location_of};
@@ -7,7 +9,7 @@ ghost use Rattle.difference.specs.Left.{left_at, four_at, without};
 ghost use Rattle.difference.specs.Walk.{Behind, AtTile, AtFour, Clear, Walked};
 
 // How far the walk has come: the next of the tiles that are taken away, and how many tiles are left so far.
-#[derive(Drop)]
+#[derive(Clone, Copy)]
 struct Mark {
     next: usize,
     count: usize,

@@ -1,10 +1,12 @@
 // The refusals of document 01, "Who can cause a refusal", and of document 02: a case for each number, and the number of each case.
+#![tactic(auto)]
+
 ghost use Rattle.std.specs.Prelude.{◌≡◌};
 ghost use Rattle.errors.specs.Answer.{number_of};
 ghost use Rattle.errors.specs.Cases.{check_number};
 ghost use Rattle.errors.specs.Turn.{first_of, turn_of};
 
-#[derive(Drop)]
+#[derive(Clone, Copy)]
 pub enum Refusal {
     // 1: a zoom above the deepest one.
     Zoom,
@@ -41,34 +43,34 @@ pub enum Refusal {
 }
 
 // Whether a call is refused, and why: what a check answers.
-#[derive(Drop)]
+#[derive(Clone, Copy)]
 pub enum Check {
     Fine,
     Refused(Refusal),
 }
 
 // What a call that counts answers.
-#[derive(Drop)]
+#[derive(Clone, Copy)]
 pub enum Count {
     Counted(usize),
     Refused(Refusal),
 }
 
 // What a call that tells yes or no answers.
-#[derive(Drop)]
+#[derive(Clone, Copy)]
 pub enum BoolAnswer {
     Told(bool),
     Refused(Refusal),
 }
 
 // What a call that gives a number answers.
-#[derive(Drop)]
+#[derive(Clone, Copy)]
 pub enum U32Answer {
     Number(u32),
     Refused(Refusal),
 }
 
-#[derive(Drop)]
+#[derive(Clone, Copy)]
 pub enum U64Answer {
     Number(u64),
     Refused(Refusal),

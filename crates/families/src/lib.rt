@@ -1,4 +1,6 @@
 // One pass over sorted Morton codes: four siblings that stand together become their parent.
+#![tactic(auto)]
+
 ghost use Rattle.std.specs.Prelude.{◌≡◌, ◌<◌, ◌≤◌, length, take, drop, get_or};
 ghost use Rattle.families.specs.Join.{four_from, join_of, first_morton};
 ghost use Rattle.families.specs.Pass.{Passed, Merges, Still};
@@ -10,7 +12,7 @@ use constants::MAX_ZOOM;
 use quadtree::Key;
 
 // What a pass leaves at the front, and whether it joined anything.
-#[derive(Drop)]
+#[derive(Clone, Copy)]
 pub struct Joined {
     pub count: usize,
     pub changed: bool,

@@ -1,6 +1,6 @@
 -- Request K12, "The same claim above a floor": what `simplify` at a minimum zoom m answers where every tile listed has zoom m or more. All
--- that is claimed stands in this file; `Theorems` proves it, with nothing assumed. What comes back of a call is by `simplify_of`, the
--- definition that `simplify` promises; ground stands in the crate `ground`, descendants in `children`.
+-- that is claimed stands in this file; proofs/Theorems.antt proves it, with nothing assumed. What comes back of a call is by `simplify_of`,
+-- the definition that `simplify` promises; ground stands in the crate `ground`, descendants in `children`.
 -- The floor is the request's word for m: a tile above it has a zoom less than m.
 use Rattle.std.specs.Prelude.{◌≡◌, ◌↔◌, cond, ℕ, ◌-◌, ◌≤◌, ltb, length}
 use mathlib.Core.List.{List, [], ◌∷◌, Memᴰ}

@@ -1,5 +1,1 @@
 pub mod Floor
-pub mod Entries
-pub mod Answer
-pub mod Cuts
-pub mod Theorems

@@ -1,1 +1,2 @@
-// What `simplify` answers above a floor, its minimum zoom: only definitions and theorems, in specs/. There is no code.
+// What `simplify` answers above a floor, its minimum zoom: only definitions, in specs/, and theorems, in proofs/. There is no code.
+#![tactic(auto)]

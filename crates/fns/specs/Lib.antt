@@ -3,4 +3,3 @@ pub mod Laws
 pub mod Parent
 pub mod Rust
 pub mod Steps
-pub mod Theorems

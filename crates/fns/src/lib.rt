@@ -1,4 +1,6 @@
 // What fns.rs gives of one tile: its limits, its flipped row, its ancestors, and the zoom at which two columns and rows part.
+#![tactic(auto)]
+
 pub mod steps;
 
 ghost use Rattle.std.specs.Prelude.{◌≡◌, ◌<◌, ◌≤◌};
@@ -13,13 +15,13 @@ use errors::{Check, Refusal, U32Answer};
 use tile::{OptionU8, Tile, TileAnswer};
 
 // The lowest and the highest column, and row, of a zoom.
-#[derive(Drop)]
+#[derive(Clone, Copy)]
 pub struct Limits {
     pub min: u32,
     pub max: u32,
 }
 
-#[derive(Drop)]
+#[derive(Clone, Copy)]
 pub enum LimitsAnswer {
     Found(Limits),
     Refused(Refusal),
@@ -27,7 +29,7 @@ pub enum LimitsAnswer {
 
 // What `parent` answers: the ancestor, and the digits of the steps to it, deepest last, with zeros after them. They are zeros where the
 // call is refused. An array stands beside an enum, since no enum that holds one is covered.
-#[derive(Drop)]
+#[derive(Clone, Copy)]
 pub struct ParentAnswer {
     pub tile: TileAnswer,
     pub digits: [u8; MAX_DIGITS],

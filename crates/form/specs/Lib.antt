@@ -3,9 +3,6 @@ pub mod Front
 pub mod Words
 pub mod Once
 pub mod Ends
-pub mod Pairs
-pub mod Keys
-pub mod Parse
+pub mod Tried
 pub mod Reading
 pub mod Steps
-pub mod Theorems

@@ -1,4 +1,6 @@
 // Form lines, by their bytes: which lines are forms, and where the parts of a form end.
+#![tactic(auto)]
+
 ghost use Rattle.std.specs.Prelude.{◌≡◌, ◌≤◌, drop, get_or, length};
 ghost use Rattle.constants.specs.Limits.{max_open};
 ghost use Rattle.errors.specs.Cases.{check_number};
@@ -12,7 +14,7 @@ use constants::{MAX_LINE, MAX_OPEN};
 use errors::{Check, Refusal};
 
 // The operations on two forms.
-#[derive(Drop)]
+#[derive(Clone, Copy)]
 pub enum Verb {
     Plus,
     Both,
@@ -20,7 +22,7 @@ pub enum Verb {
 }
 
 // What the front of a form says that it is.
-#[derive(Drop)]
+#[derive(Clone, Copy)]
 pub enum Word {
     Tiles,
     Pair(Verb),
@@ -28,7 +30,7 @@ pub enum Word {
 }
 
 // How many bytes belong to what stands at the front, or that it does not stand there.
-#[derive(Drop)]
+#[derive(Clone, Copy)]
 pub enum End {
     At(usize),
     Nowhere,

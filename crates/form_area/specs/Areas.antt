@@ -3,7 +3,7 @@ use Rattle.std.specs.Prelude.{◌≡◌, refl, true, false, ℕ, ◌+◌, ◌-�
 use Rattle.std.proofs.Math.Path.{sym, ap}
 use Rattle.std.proofs.Common.{◌∙◌, arith, length-drop, length-append, take_at, drop_at, drop-drop, lt-ltb, le-ltb, eq-eqb}
 use mathlib.Core.List.{List, [], ◌∷◌, ◌++◌}
-use Rattle.std.proofs.Math.ListN.{length_map, length-replicate}
+use Rattle.std.proofs.Math.ListN.{length-map, length-replicate}
 use Rattle.bits.specs.Tests.{all_of}
 use Rattle.constants.specs.Limits.{max_entries, form_places}
 use Rattle.errors.specs.Answer.{Answer, answer, number_of, ◌else◌}
@@ -16,12 +16,13 @@ use Rattle.errors.specs.declared.Refusal.TheVariants.{Memory}
 use Rattle.form.specs.Form.{space, closing, Form, tiles, pair, spaced, text}
 use Rattle.form.specs.Ends.{FormEnds}
 use Rattle.form.specs.Front.{FormFirst, KeysFirst, PairFirst}
-use Rattle.form.specs.Once.{one_form}
+use Rattle.form.proofs.OnceLemmas.{one_form}
 use Rattle.form.specs.declared.End.TheVariants.{At, Nowhere}
 use Rattle.form.specs.declared.Verb.{Verb}
 use Rattle.form_area.specs.Area.{is_dash, key_of_run, keys_refusal, key_entry, run_entries, places, operated, area_given, form_area}
 use Rattle.form_area.specs.Calls.{valued, simplify_alike, call_valued, operated_gives, operated_alike}
-use Rattle.ids.specs.Entry.{is_entry, entry_accepted, entry_tile_again}
+use Rattle.ids.specs.Entry.{is_entry}
+use Rattle.ids.proofs.EntryLemmas.{entry_accepted, entry_tile_again}
 use Rattle.merge.specs.Gives.{simplify_gives}
 use Rattle.merge.specs.Merge.{simplify_of}
 use Rattle.quadkey.specs.Key.{key_refusal}
@@ -84,7 +85,7 @@ module _ (runs : List (List ℕ)) where
         → valued (count.Refused Memory) exit ≡ form_area (tiles runs)
     unfolding form_area
     many_keys_area exit h k =
-        let l = length_map runs (λ (r : List ℕ). key_entry (key_of_run r)) in
+        let l = length-map runs (λ (r : List ℕ). key_entry (key_of_run r)) in
         let m = length-replicate {A = ℕ} form_places 0 in
         let e = too_many (run_entries runs) places (runs_are_entries runs fine) (omega (arith, l, k)) (omega (arith, l, m, h)) in
         let n : 12 ≡ keys_refusal runs else (simplify_of (run_entries runs) 0 places).number =

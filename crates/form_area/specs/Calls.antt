@@ -4,7 +4,8 @@ use Rattle.std.proofs.Common.{sym, ap, ap₂, ◌∙◌, subst}
 use Rattle.area.specs.Area.{pair_refusal, pair_places_refusal, union_entries, common_entries, difference_entries}
 use Rattle.errors.specs.Answer.{Answer, answer, Lent, short, ◌else◌}
 use Rattle.errors.specs.Cases.{count_case, left}
-use Rattle.errors.specs.Gives.{answer_of, Gives, lent_gives}
+use Rattle.errors.specs.Gives.{answer_of, Gives}
+use Rattle.errors.proofs.GivesLemmas.{lent_gives}
 use Rattle.errors.specs.declared.Count.{Count}
 use Rattle.form.specs.declared.Verb.{Verb}
 use Rattle.form.specs.declared.Verb.TheVariants.{Plus, Both, Minus}

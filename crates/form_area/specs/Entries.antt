@@ -1,7 +1,7 @@
 -- The keys of `tiles`, one after the other: refused by the first bad one, else entries in the order of the keys.
 use Rattle.std.specs.Prelude.{◌≡◌, refl, true, List, [], ◌∷◌, ◌++◌, ℕ, zero, suc, ◌+◌, ◌-◌, ◌≤◌, ◌<◌, length, take, drop, set}
 use Rattle.std.proofs.Common.{sym, ap, subst, ◌∙◌, append_assoc, append-nil, add-one, arith, length-append, length-drop, length-set, take-suc-set, drop-drop}
-use Rattle.std.proofs.lemmas.List.{map_append}
+use Rattle.std.proofs.lemmas.List.{map-append}
 use Rattle.errors.specs.Answer.{number_of, ◌else◌}
 use Rattle.errors.specs.declared.Check.{Check}
 use Rattle.errors.specs.declared.Check.TheVariants as check
@@ -12,8 +12,8 @@ use Rattle.errors.specs.Laws.{stands, answer_found}
 use Rattle.bits.specs.Tests.{and_parts}
 use Rattle.form.specs.Form.{closing, spaced, is_run, all_runs}
 use Rattle.form.specs.Front.{KeysFirst}
-use Rattle.form.specs.Keys.{keys_first_key, first_key, key_first, one_key, only_closing}
-use Rattle.form.specs.Once.{one_keys}
+use Rattle.form.proofs.Keys.{keys_first_key, first_key, key_first, one_key, only_closing}
+use Rattle.form.proofs.OnceLemmas.{one_keys}
 use Rattle.form.specs.Words.{key_length}
 use Rattle.form_area.specs.Area.{key_of_run, keys_refusal, key_entry, run_entries}
 use Rattle.ids.specs.Entry.{entry_of}
@@ -139,7 +139,7 @@ one_more_entry : (done : List (List ℕ)) (run : List ℕ) (n : ℕ) (entries af
 one_more_entry done run n entries after g before h =
     let l : length after ≡ length entries = ap length g ∙ length-set entries n _ in
     rw (g, add-one n, take-suc-set entries n (key_entry (key_of_run run)) (omega (arith, h, l)), before (omega (arith, h, l)))
-    (sym (map_append (λ (r : List ℕ). key_entry (key_of_run r)) done (run ∷ [])))
+    (sym (map-append (λ (r : List ℕ). key_entry (key_of_run r)) done (run ∷ [])))
 
 module _ (at n : ℕ) (entries body : List ℕ) (runs : List (List ℕ)) (e : Entering at n entries body runs) where
   all_again : (k : NextKey at body e.rest) → e.done ++ k.run ∷ k.more ≡ runs

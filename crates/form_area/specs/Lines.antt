@@ -9,7 +9,8 @@ use Rattle.constants.specs.Limits.{max_line}
 use Rattle.errors.specs.Answer.{Answer, answer, Lent, ◌when◌, ◌else◌}
 use Rattle.errors.specs.Gives.{answer_of}
 use Rattle.form.specs.Form.{Form, tiles, pair, Reads, too_deep}
-use Rattle.form.specs.Reading.{reading, one_reading, is_reading, whole_refusal, line_refusal}
+use Rattle.form.specs.Reading.{reading, is_reading, whole_refusal, line_refusal}
+use Rattle.form.proofs.ReadingLemmas.{one_reading}
 use Rattle.form_area.specs.Area.{keys_refusal, run_entries, places, operated, area_given, form_area, read_area, line_area}
 use Rattle.merge.specs.Merge.{simplify_of}
 

@@ -1,4 +1,6 @@
 // The area of a form line: its lists settled, joined, shared and taken away as the form says.
+#![tactic(auto)]
+
 ghost use Rattle.std.specs.Prelude.{◌≡◌, ◌≤◌, length};
 ghost use Rattle.constants.specs.Limits.{max_line, form_places};
 ghost use Rattle.errors.specs.Answer.{written as the-written-Answer};

@@ -1,1 +1,2 @@
-// A line's answer is an answer of a build: the build of a form, and the theorem, in specs/. There is no code.
+// A line's answer is an answer of a build: the build of a form, in specs/, and the theorem, in proofs/. There is no code.
+#![tactic(auto)]

@@ -2,14 +2,14 @@
 use Rattle.std.specs.Prelude.{◌≡◌, refl, Bool, true, false, not, ◌&&◌, ◌⊎◌, ℕ, zero, suc, ◌+◌, ◌≤◌, ltb}
 use Rattle.std.proofs.Common.{sym, inl, inr, arith, length-append, ltb-false}
 use mathlib.Core.List.Memᴰ
-use mathlib.Core.List.{List, [], ◌++◌, map_append, Memᴰ}
+use mathlib.Core.List.{List, [], ◌++◌, map-append, Memᴰ}
 use Rattle.std.proofs.Math.ListN.{length}
-use Rattle.std.proofs.lemmas.List.{length_map, length-replicate}
+use Rattle.std.proofs.lemmas.List.{length-map, length-replicate}
 use Rattle.area.specs.Area.{tiles_of, ground_of, settled_entries, pair_refusal, pair_places_refusal, union_entries, common_entries}
 use Rattle.area.specs.Area.{difference_entries}
-use Rattle.area.specs.Grounds.{simplify_entries, listed_covers}
+use Rattle.area.proofs.Grounds.{simplify_entries, listed_covers}
 use Rattle.area.specs.Pairs.{union_covers, common_covers, Shared, of_first_lem, of_second, shared_when}
-use Rattle.area.specs.Settled.{settled_entries_settled}
+use Rattle.area.proofs.Settled.{settled_entries_settled}
 use Rattle.bits.specs.Tests.{all_of, into_map}
 use Rattle.constants.specs.Limits.{max_zoom, max_line, form_places}
 use Rattle.errors.specs.Answer.{answer, Lent, short, ◌when◌, ◌else◌}
@@ -21,7 +21,7 @@ use Rattle.form.specs.declared.Verb.{Verb}
 use Rattle.form.specs.declared.Verb.TheVariants.{Plus, Both, Minus}
 use Rattle.form_area.specs.Area.{form_area, area_given, keys_refusal, operated, places, read_area, line_area, run_entries}
 use Rattle.form_area.specs.Calls.{operated_gives}
-use Rattle.ground.specs.Floor.{settled_list_least_from}
+use Rattle.ground.proofs.FloorLemmas.{settled_list_least_from}
 use Rattle.ground.specs.Ground.{settled_list}
 use Rattle.ground.specs.Largest.{Cover}
 use Rattle.ids.specs.Entry.{entry_of, entry_tile, entry_refusal, is_entry}
@@ -54,8 +54,8 @@ covered_fits : {G : ℕ → ℕ → Bool} {P : Tile → Type 0} → Cover max_zo
 covered_fits {G} C list all h =
     settled_fits G (omega (
       arith,
-      length_map (settled_list max_zoom G) (λ (t : Tile). entry_of t.x t.y t.z),
-      length_map list entry_tile,
+      length-map (settled_list max_zoom G) (λ (t : Tile). entry_of t.x t.y t.z),
+      length-map list entry_tile,
       settled_list_least_from 0 max_zoom C (λ t p. omega arith) (tiles_of list) all,
       h,
     ))
@@ -87,8 +87,8 @@ keys_fit list e =
 -- of two lists: as many as both have at most
 module _ (a b : List ℕ) (f : Fits a) (g : Fits b) where
   either : (t : Tile) → (listed a t ≡ true) ⊎ (listed b t ≡ true) → Memᴰ t (tiles_of (a ++ b))
-  either t (inl e) = rw (map_append entry_tile a b) (Memᴰ.append_left (tiles_of b) (in_tiles a t e))
-  either t (inr e) = rw (map_append entry_tile a b) (Memᴰ.append_right (tiles_of a) (in_tiles b t e))
+  either t (inl e) = rw (map-append entry_tile a b) (Memᴰ.append_left (tiles_of b) (in_tiles a t e))
+  either t (inr e) = rw (map-append entry_tile a b) (Memᴰ.append_right (tiles_of a) (in_tiles b t e))
 
   both_few : pair_places_refusal a b places ≡ 0 → length (a ++ b) ≤ form_places
   unfolding pair_places_refusal

@@ -1,7 +1,7 @@
 -- The printed parts of an answer: what they are for each entry, and how long.
 use Rattle.std.specs.Prelude.{◌≡◌, refl, true, List, [], ◌∷◌, ◌++◌, map, ℕ, zero, suc, ◌+◌, ◌*◌, ◌/◌, ◌%◌, ◌≤◌, ◌<◌, length, take, drop, get_or, set}
 use Rattle.std.proofs.Common.{sym, ap, ◌∙◌, append_assoc, append-nil, add-one, arith, length-append, take-append-drop, take-suc, eqb-true}
-use Rattle.std.proofs.lemmas.List.{map_append}
+use Rattle.std.proofs.lemmas.List.{map-append}
 use Rattle.bits.specs.Tests.{all_of, all_at, and_parts}
 use Rattle.constants.specs.Limits.{max_zoom_small, form_places}
 use Rattle.errors.specs.Laws.{answer_found, answer_refused, never_zero}
@@ -11,7 +11,8 @@ use Rattle.form_line.specs.Decimal.{decimal, decimal_digit, decimal_more}
 use Rattle.form_line.specs.Few.{Fits, IsEntry}
 use Rattle.form_line.specs.Line.{key_shown, entry_shown, keys_text, list_text, refusal_text}
 use Rattle.form_line.specs.Stores.{Stored, one_stored, stored_behind, stored_same}
-use Rattle.ids.specs.Entry.{entry_tile, entry_refusal, entry_tile_of, is_entry, accepted_entry}
+use Rattle.ids.specs.Entry.{entry_tile, entry_refusal, entry_tile_of, is_entry}
+use Rattle.ids.proofs.EntryLemmas.{accepted_entry}
 use Rattle.quadkey.specs.Key.{key_from, key_of}
 use Rattle.quadkey.specs.Spelling.{key_length_lem}
 use Rattle.tile.specs.OnMap.{no_tile_of, tile_case}
@@ -64,7 +65,7 @@ spaced_append [] b = refl
 spaced_append (key ∷ a) b = ap (λ (l : List ℕ). space ∷ l) (rw (spaced_append a b) (sym (append_assoc key (spaced a) (spaced b))))
 
 keys_append : (a b : List ℕ) → keys_text (a ++ b) ≡ keys_text a ++ keys_text b
-keys_append a b = ap spaced (map_append entry_shown a b) ∙ spaced_append (map entry_shown a) (map entry_shown b)
+keys_append a b = ap spaced (map-append entry_shown a b) ∙ spaced_append (map entry_shown a) (map entry_shown b)
 
 -- one key more
 pub keys_more : (list : List ℕ) (i : ℕ) → i < length list

@@ -1,4 +1,6 @@
 // What is printed for a form line: how many tiles its area has and their keys, or the refusal.
+#![tactic(auto)]
+
 ghost use Rattle.std.specs.Prelude.{◌≡◌, ◌+◌, ◌<◌, ◌≤◌, length};
 ghost use Rattle.errors.specs.Answer.{number_of, written};
 ghost use Rattle.errors.specs.Cases.{left};

@@ -1,4 +1,6 @@
 // Standard input as lines: bytes are taken in as they come, and the answers of the lines come out.
+#![tactic(auto)]
+
 ghost use Rattle.std.specs.Prelude.{◌≡◌, [], suc, ◌≤◌, min, length, take, drop, set};
 ghost use Rattle.constants.specs.Limits.{max_line};
 ghost use Rattle.errors.specs.Answer.{written};
@@ -14,14 +16,14 @@ use errors::{Count, Refusal};
 pub const KEPT: usize = MAX_LINE + 1;
 
 // How far the input is taken in: so many bytes of the chunk, and so many of the line so far are kept.
-#[derive(Drop)]
+#[derive(Clone, Copy)]
 pub struct Feeding {
     pub at: usize,
     pub len: usize,
 }
 
 // How far the input is taken in after a call, and how many bytes it wrote.
-#[derive(Drop)]
+#[derive(Clone, Copy)]
 pub struct Fed {
     pub feeding: Feeding,
     pub filled: usize,

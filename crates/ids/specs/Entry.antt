@@ -1,10 +1,9 @@
 -- The number that stands for a tile in a list, by this one name: the one of `xyz2rmid`. Callers use the laws below, and not which
 -- number it is.
-use Rattle.std.specs.Prelude.{◌≡◌, Bool, List, map, ℕ, eqb}
+use Rattle.std.specs.Prelude.{Bool, List, map, ℕ, eqb}
 use Rattle.errors.specs.Answer.{Answer, answer}
-use Rattle.tile.specs.OnMap.{OnMap, tile_at, no_tile_of}
+use Rattle.tile.specs.OnMap.{no_tile_of}
 use Rattle.tile.specs.declared.Tile.{Tile}
-use Rattle.ids.specs.Levels.{rmid_again, rmid_tile_again, rmid_accepted, accepted_rmid}
 use Rattle.ids.specs.Rmid.{rmid, rmid_tile, rmid_refusal}
 
 unfoldable pub entry_of : ℕ → ℕ → ℕ → ℕ
@@ -25,20 +24,3 @@ is_entry n = eqb (entry_refusal n) 0
 
 abbrev pub entry_tile_of : ℕ → Answer Tile
 entry_tile_of n = answer (entry_refusal n) no_tile_of (entry_tile n)
-
-pub entry_accepted : (n : ℕ) → OnMap (entry_tile n).x (entry_tile n).y (entry_tile n).z → entry_refusal n ≡ 0
-unfolding entry_tile entry_refusal
-entry_accepted = rmid_accepted
-
-pub accepted_entry : (n : ℕ) → entry_refusal n ≡ 0 → OnMap (entry_tile n).x (entry_tile n).y (entry_tile n).z
-unfolding entry_tile entry_refusal
-accepted_entry = accepted_rmid
-
--- an entry is that of the tile that it takes apart to, and a tile the one of its entry
-pub entry_again : (n : ℕ) → entry_of (entry_tile n).x (entry_tile n).y (entry_tile n).z ≡ n
-unfolding entry_of entry_tile
-entry_again = rmid_again
-
-pub entry_tile_again : (x y z : ℕ) → OnMap x y z → entry_tile (entry_of x y z) ≡ tile_at x y z
-unfolding entry_of entry_tile
-entry_tile_again = rmid_tile_again

@@ -5,4 +5,3 @@ pub mod IdBits
 pub mod Levels
 pub mod Entry
 pub mod Rust
-pub mod Theorems

@@ -1,4 +1,6 @@
 // The numbers of fns.rs that stand for tiles: by the Mapbox coverage rule, and row by row from the root on.
+#![tactic(auto)]
+
 ghost use Rattle.std.specs.Prelude.{◌≡◌, ◌*◌, ◌/◌, ◌%◌, ◌^◌, ◌<◌, ◌≤◌};
 ghost use Rattle.constants.specs.Limits.{max_zoom};
 ghost use Rattle.errors.specs.Cases.{u64_case};
@@ -72,13 +74,13 @@ pub fn entry_tile(entry: u64) -> TileAnswer
 }
 
 // A row-major number taken apart: the place within its zoom, and the zoom.
-#[derive(Drop)]
+#[derive(Clone, Copy)]
 pub struct OffsetZoom {
     pub offset: u64,
     pub zoom: u8,
 }
 
-#[derive(Drop)]
+#[derive(Clone, Copy)]
 pub enum OffsetZoomAnswer {
     Found(OffsetZoom),
     Refused(Refusal),

@@ -1,4 +1,6 @@
 // What document 01 adds to keys: the keys of ancestors, as parts of the caller's own bytes.
+#![tactic(auto)]
+
 ghost use Rattle.std.specs.Prelude.{◌≡◌};
 ghost use Rattle.errors.specs.Cases.{check_number};
 ghost use Rattle.key_parts.specs.Parts.{ancestor_refusal, leading_part, shared_length, shared_refusal};

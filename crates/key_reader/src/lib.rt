@@ -1,4 +1,6 @@
 // A key read in one pass: a reader that is fed its bytes one by one, and tells at any time what they are as a whole key.
+#![tactic(auto)]
+
 ghost use Rattle.std.specs.Prelude.{◌≡◌, true, false, ◌&&◌, [], ◌++◌, ◌+◌, ◌≤◌, eqb, length};
 ghost use Rattle.constants.specs.Limits.{max_zoom};
 ghost use Rattle.quadkey.specs.Key.{key_tile};
@@ -12,7 +14,7 @@ use tile::{Tile, TileAnswer};
 
 // What is kept of the bytes so far, and none of them: the column and row that they spell, and their count. Where one is no digit, `bad` and
 // the count; where they are more than the longest key has, a count of one more, whatever they were.
-#[derive(Drop)]
+#[derive(Clone, Copy)]
 pub struct KeyReader {
     pub x: u32,
     pub y: u32,
@@ -21,7 +23,7 @@ pub struct KeyReader {
 }
 
 // What a feed answers. The reader that is refused comes back as it was.
-#[derive(Drop)]
+#[derive(Clone, Copy)]
 pub enum FeedAnswer {
     Fed(KeyReader),
     Refused(Refusal, KeyReader),

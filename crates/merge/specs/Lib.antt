@@ -1,4 +1,3 @@
 pub mod Merge
 pub mod Gives
-pub mod Doors
 pub mod Theorems

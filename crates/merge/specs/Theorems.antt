@@ -8,7 +8,8 @@ use native.Mathlib.Omega.{arith}
 use Rattle.std.proofs.lemmas.List.{length-replicate, take-append-le}
 use Rattle.bits.specs.Tests.{all_of, in_all, any_of, in_any, any_in, in_map, into_map}
 use Rattle.constants.specs.Limits.{max_zoom}
-use Rattle.ids.specs.Entry.{entry_of, entry_tile, entries_of, is_entry, entry_accepted, entry_tile_again}
+use Rattle.ids.specs.Entry.{entry_of, entry_tile, entries_of, is_entry}
+use Rattle.ids.proofs.EntryLemmas.{entry_accepted, entry_tile_again}
 use Rattle.tile.specs.OnMap.{OnMap}
 use Rattle.tile.specs.declared.Tile.{Tile}
 use Rattle.tile_list.specs.Laws.{named_by, names, listed_within, same_named}

@@ -1,4 +1,6 @@
 // The functions of merge.rs on lists of tiles in lent memory: one pass of merging, and both settlings.
+#![tactic(auto)]
+
 ghost use Rattle.std.specs.Prelude.{◌≡◌};
 ghost use Rattle.errors.specs.Cases.{left};
 ghost use Rattle.merge.specs.Merge.{merged_left, merge_of, simplify_v1_of, simplify_of};
@@ -9,13 +11,13 @@ use tile::OptionU8;
 use work::{FIRST_VALUE, Simplification, Work};
 
 // How many entries the answer has, and whether four siblings became their parent anywhere.
-#[derive(Drop)]
+#[derive(Clone, Copy)]
 pub struct Merged {
     pub count: usize,
     pub changed: bool,
 }
 
-#[derive(Drop)]
+#[derive(Clone, Copy)]
 pub enum MergeAnswer {
     Found(Merged),
     Refused(Refusal),

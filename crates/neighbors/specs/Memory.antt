@@ -1,7 +1,7 @@
 -- How the memory fills up with the tiles that are found.
 use Rattle.std.specs.Prelude.{◌≡◌, List, [], ◌∷◌, ◌++◌, ℕ, zero, suc, ◌+◌, ◌≤◌, ◌<◌, length, drop, get_or, set}
 use Rattle.std.proofs.Common.{sym, ap, ◌∙◌, append_assoc, add-zero, add-one, arith, length-append, length-drop, take-append-drop, take_at, drop_at, drop-drop, le-ltb}
-use Rattle.std.proofs.lemmas.List.{map_append, length_map, set_split}
+use Rattle.std.proofs.lemmas.List.{map-append, length-map, set_split}
 use Rattle.ids.specs.Entry.{entries_of}
 use Rattle.errors.specs.Answer.{answer, written}
 use Rattle.errors.specs.Cases.{count_case, left}
@@ -17,24 +17,24 @@ pub fill_more : (seam : Seam) (x y z k n : ℕ) (spot : Spot) (memory out : List
     → pasted n (entries_of (spot_tiles z spot)) out ≡ entries_of (found seam x y z (k + 1)) ++ drop (n + length (spot_tiles z spot)) memory
 fill_more seam x y z k n spot memory out h e f g =
     let done = entries_of (found seam x y z k) in
-    let l : length done ≡ n = length_map (found seam x y z k) _ ∙ sym e in
+    let l : length done ≡ n = length-map (found seam x y z k) _ ∙ sym e in
     rw (
       f,
       take_at done (drop n memory) n l,
       ← drop-drop (length (entries_of (spot_tiles z spot))) n (done ++ drop n memory),
       drop_at done (drop n memory) n l,
       drop-drop,
-      length_map,
+      length-map,
       found_more seam x y z k h,
       ← g,
-      map_append,
+      map-append,
       append_assoc,
     )
 
 pub fill_length : (seam : Seam) (x y z k n : ℕ) (memory out : List ℕ) → n ≡ length (found seam x y z k) → n ≤ length memory
     → out ≡ entries_of (found seam x y z k) ++ drop n memory → length out ≡ length memory
 fill_length seam x y z k n memory out e h f =
-    ap (λ (l : List ℕ). length l) f ∙ rw (length-append, length_map, ← e, length-drop) (omega arith)
+    ap (λ (l : List ℕ). length l) f ∙ rw (length-append, length-map, ← e, length-drop) (omega arith)
 
 pub paste_one : (n v : ℕ) (memory : List ℕ) → n < length memory → set memory n v ≡ pasted n (v ∷ []) memory
 paste_one n v memory h = rw (set_split memory n v h, add-one n)

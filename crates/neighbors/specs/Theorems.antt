@@ -12,7 +12,7 @@ use Rattle.siblings.specs.Siblings.{siblings_of}
 use Rattle.siblings.specs.Theorems.{rust_siblings_lem, Sibling, exactly_the_others_of_the_family, siblings_on_the_map, each_sibling_once}
 use Rattle.tile.specs.OnMap.{OnMap, tile_at}
 use Rattle.tile.specs.Rust.{To29}
-use Rattle.tile.specs.Theorems.{power_fits}
+use Rattle.tile.proofs.Theorems.{power_fits}
 use Rattle.tile.specs.declared.Tile.{Tile}
 use Rattle.neighbors.specs.Neighbors.{around, near, near_of, order_of, neighbors_of}
 use Rattle.neighbors.specs.declared.Seam.{Seam}

@@ -1,4 +1,6 @@
 // The tiles around a tile, as list entries: its neighbours, and its neighbours on a map that wraps in x.
+#![tactic(auto)]
+
 ghost use Rattle.std.specs.Prelude.{◌≡◌, ◌++◌, ◌+◌, ◌^◌, ◌<◌, ◌≤◌, length, drop, get_or};
 ghost use Rattle.errors.specs.Answer.{answer};
 ghost use Rattle.errors.specs.Cases.{count_case, left};
@@ -16,14 +18,14 @@ const AROUND: [u8; 8] = [7, 5, 8, 1, 3, 0, 6, 2];
 const AROUND_WRAPPED: [u8; 8] = [0, 1, 2, 3, 5, 6, 7, 8];
 
 // The seam of the map is the antimeridian: the map is cut there, or wrapped, so that the last column stands beside the first.
-#[derive(Drop)]
+#[derive(Clone, Copy)]
 pub enum Seam {
     Cut,
     Wrapped,
 }
 
 // What stands at such a square: a tile of the map, or none.
-#[derive(Drop)]
+#[derive(Clone, Copy)]
 pub enum Spot {
     At { x: u32, y: u32 },
     Off,

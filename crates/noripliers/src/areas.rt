@@ -3,7 +3,7 @@
 ghost use Rattle.std.specs.Prelude.{◌≡◌};
 ghost use Rattle.area.specs.Area.{common_of, difference_of, union_of};
 ghost use Rattle.c_give.specs.Exported.{answered, as_byte, answered_in};
-ghost use Rattle.settled.specs.Answers.{isSettledOf};
+ghost use Rattle.settled.specs.Answers.{is_settled_of};
 
 // The settled list of the ground in either list. out needs a place for each entry of both; those that the answer leaves
 // are set to 0.
@@ -40,7 +40,7 @@ pub extern "C" fn nori_difference(a: &[u64], b: &[u64], out: &mut [u64], count: 
 // Refused: 6, 7.
 #[unsafe(no_mangle)]
 pub extern "C" fn nori_is_settled(list: &[u64], settled: &mut u8) -> u8
-    ensures { answered result settled.new ≡ as_byte (isSettledOf list.now) }
+    ensures { answered result settled.new ≡ as_byte (is_settled_of list.now) }
 {
     c_merge::is_settled(list, settled)
 }

@@ -17,6 +17,7 @@
 // No pointer may be null, also that of an empty list. What a call writes may overlap nothing else that it is handed. Nothing is
 // kept between calls and nothing is allocated: any thread may call. A call on lists of more than 4,096 entries
 // needs up to 1.6 MB of stack, any other at most 256 KB.
+#![tactic(auto)]
 
 // The comment above and those on the functions are the texts of the header, which tools/bindings writes. A module NAME_rs has the
 // calls of the Rust's NAME.rs.

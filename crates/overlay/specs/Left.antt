@@ -1,7 +1,7 @@
 -- Difference: how many places it needs, and that what is left becomes a list in them.
 use Rattle.std.specs.Prelude.{◌≡◌, List, ◌++◌, map, ℕ, ◌+◌, ◌-◌, ◌*◌, ◌≤◌, ltb, length, take, drop}
 use Rattle.std.proofs.Common.{sym, ap, ◌∙◌, subst, append-nil, arith, le-ltb, length-append, length-drop, take_all, take_at, drop_at, length-take-le}
-use Rattle.std.proofs.lemmas.List.{length_map}
+use Rattle.std.proofs.lemmas.List.{length-map}
 use Rattle.std.proofs.lemmas.List.Edits.{sets}
 use Rattle.constants.specs.Limits.{max_zoom}
 use Rattle.difference.specs.Bound.{without_length}
@@ -19,7 +19,7 @@ use Rattle.tile_list.specs.List.{named}
 
 module _ (a b : List ℕ) (r : Runs a) where
   left_count : length (left_entries a b) ≡ length (without a b)
-  left_count = runs_count (map location_of (without a b)) (without_runs a b r) ∙ length_map (without a b) location_of
+  left_count = runs_count (map location_of (without a b)) (without_runs a b r) ∙ length-map (without a b) location_of
 
   pub left_bound : Runs b → length (left_entries a b) ≤ length a + 3 * (max_zoom * length b)
   left_bound s = omega (arith, left_count, without_length a r b s)

@@ -2,7 +2,7 @@
 use Rattle.std.specs.Prelude.{◌≡◌, refl, ℕ, length}
 use Rattle.std.proofs.Common.{sym, ap, ◌∙◌, subst, arith}
 use mathlib.Core.List.{List, [], ◌∷◌, map, Memᴰ}
-use Rattle.std.proofs.lemmas.List.{length_map}
+use Rattle.std.proofs.lemmas.List.{length-map}
 use Rattle.bits.specs.Tests.{in_map, in_get_d}
 use Rattle.quadtree.specs.Lists.{rank_entry, TileNumbers}
 use Rattle.quadtree.specs.Locations.{low_pos, IsLocation, tiles, Runs}
@@ -53,13 +53,13 @@ ranks_rising (x ∷ l) r each =
 pub runs_count : (l : List ℕ) → Runs l → length (entries_in_order (named location_tile l)) ≡ length l
 runs_count l r =
     sym (ap length (keys_finished Location l (runs_numbers l r)))
-    ∙ (length_map (once_of (sort_n ranks)) rank_entry ∙ (ap length once ∙ (sort_length ranks ∙ as_many)))
+    ∙ (length-map (once_of (sort_n ranks)) rank_entry ∙ (ap length once ∙ (sort_length ranks ∙ as_many)))
   where
     ranks : List ℕ
     ranks = map rank_of (map location_tile l)
 
     as_many : length ranks ≡ length l
-    as_many = length_map (map location_tile l) rank_of ∙ length_map l location_tile
+    as_many = length-map (map location_tile l) rank_of ∙ length-map l location_tile
 
     location : (k : ℕ) → Memᴰ k l → IsLocation k
     location k m = let s = in_get_d l 0 m in rw (← s.2) (r.each s.0 s.1)

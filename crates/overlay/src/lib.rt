@@ -1,5 +1,7 @@
 // Union, common part and difference of two settled sets of tiles: what GIS calls the overlay of two layers. It is made of the locations
 // of their tiles alone. No entry is tested here and nothing is refused.
+#![tactic(auto)]
+
 ghost use Rattle.std.specs.Prelude.{◌≡◌, ◌*◌, ◌≤◌, ltb, length, take, drop};
 ghost use Rattle.constants.specs.Limits.{max_entries};
 ghost use Rattle.overlay.specs.Overlay.{TwoSets, union_set, common_set, left_entries, LeftIn};

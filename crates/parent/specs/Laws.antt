@@ -6,7 +6,7 @@ use Rattle.errors.specs.Laws.{never_zero}
 use Rattle.fns.specs.Fns.{parent_of}
 use Rattle.fns.specs.Laws.{no_parent, nearest_parent}
 use Rattle.fns.specs.Parent.{Ancestor, parent_case, parent_given}
-use Rattle.fns.specs.Theorems.{the_tile_is_as_before}
+use Rattle.fns.proofs.Theorems.{the_tile_is_as_before}
 use Rattle.fns.specs.declared.ParentAnswer.{ParentAnswer}
 use Rattle.tile.specs.OnMap.{OnMap, tile_at, tile_case, on_map_accepted}
 use Rattle.tile.specs.declared.Tile.{Tile}

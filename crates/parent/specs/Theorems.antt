@@ -5,7 +5,7 @@ use Rattle.std.proofs.Math.Option.{Option, none, some}
 use Rattle.bits.specs.Checked.{returns, read}
 use Rattle.fns.specs.Laws.{half_on_map}
 use Rattle.fns.specs.Rust.{rust_parent}
-use Rattle.fns.specs.Theorems.{half_to_29, rust_nearest, rust_root}
+use Rattle.fns.proofs.Theorems.{half_to_29, rust_nearest, rust_root}
 use Rattle.tile.specs.OnMap.{OnMap, tile_at, no_tile_of, on_map_accepted}
 use Rattle.tile.specs.Rust.{To29, to_29_on_map}
 use Rattle.tile.specs.declared.Tile.{Tile}

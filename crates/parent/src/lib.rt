@@ -1,4 +1,6 @@
 // The ancestors of a tile, nearest first: a cursor by value that holds the tile that comes next, or none.
+#![tactic(auto)]
+
 ghost use Rattle.std.specs.Prelude.{◌≡◌};
 ghost use Rattle.tile.specs.OnMap.{OnMap};
 ghost use Rattle.parent.specs.Parents.{above_of, parents_case, iter_of, parents_next_case, parents_next_of};
@@ -6,31 +8,31 @@ ghost use Rattle.parent.specs.Parents.{above_of, parents_case, iter_of, parents_
 use errors::{Check, Refusal};
 use tile::{OptionU8, Tile, TileAnswer};
 
-#[derive(Drop)]
+#[derive(Clone, Copy)]
 pub enum OptionTile {
     None,
     Some(Tile),
 }
 
-#[derive(Drop)]
+#[derive(Clone, Copy)]
 pub struct Parents {
     pub current: OptionTile,
 }
 
-#[derive(Drop)]
+#[derive(Clone, Copy)]
 pub enum ParentsAnswer {
     Found(Parents),
     Refused(Refusal),
 }
 
 // The tile that a cursor gives, or none, and the cursor after it.
-#[derive(Drop)]
+#[derive(Clone, Copy)]
 pub struct Next {
     pub tile: OptionTile,
     pub rest: Parents,
 }
 
-#[derive(Drop)]
+#[derive(Clone, Copy)]
 pub enum NextAnswer {
     Found(Next),
     Refused(Refusal),

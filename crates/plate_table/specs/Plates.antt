@@ -1,29 +1,24 @@
--- Document 01's plates as one table, `table`, under one statement, `Plates`; the theorem is `plates`, and nothing is assumed. A row
--- has the paper's words, what the definition in a call's promise gives, and what the paper says. The lines that the paper marks † are
--- all here, and three of its others; the last is as document 02, K2, changes it.
-use Rattle.std.specs.Prelude.{◌≡◌, refl, [], ◌∷◌, ◌+◌, ◌-◌, ◌^◌}
-use Rattle.bits.specs.Tests.{all_of}
-use Rattle.children.specs.Children.{gather}
-use Rattle.constants.specs.Limits.{max_zoom, max_id_zoom, max_entries}
+-- Document 01's plates as one table, `table`, under one statement, `Plates`; the theorem is `plates` of proofs/Plates.antt, and nothing is
+-- assumed. A row has the paper's words, what the definition in a call's promise gives, and what the paper says. The lines that the paper
+-- marks † are all here, and three of its others; the last is as document 02, K2, changes it.
+use Rattle.std.specs.Prelude.{◌≡◌, [], ◌∷◌, ◌+◌, ◌-◌, ◌^◌}
 use Rattle.errors.specs.Answer.{written}
-use Rattle.fns.specs.Fns.{parent_refusal, parent_of}
+use Rattle.fns.specs.Fns.{parent_of}
 use Rattle.ids.specs.Entry.{entries_of}
-use Rattle.ids.specs.Id.{id_of, id_tile_refusal, to_id_of}
-use Rattle.ids.specs.Rmid.{level_start, to_rmid_of}
+use Rattle.ids.specs.Id.{to_id_of}
+use Rattle.ids.specs.Rmid.{to_rmid_of}
 use Rattle.merge.specs.Merge.{simplify_v1_of, simplify_of}
 use Rattle.neighbors.specs.Neighbors.{neighbors_written}
 use Rattle.neighbors.specs.declared.Seam.TheVariants.{Cut}
 use Rattle.siblings.specs.Siblings.{siblings_written}
-use Rattle.plate_table.specs.Kept.{answers, both_accepted, none_accepted, v1_keeps_both, simplify_keeps_one, empty_settles}
 use Rattle.plate_table.specs.Rows.{Row, row, key, entries_of_keys, answered_with, refused, keeps, ranges}
-use Rattle.quadkey.specs.Key.{key_from, key_written, all_digits_of, key_refusal, spelled}
+use Rattle.quadkey.specs.Key.{key_written}
 use Rattle.tile.specs.Option.{unwrap_or}
-use Rattle.tile.specs.OnMap.{tile_at, no_tile_of, tile_refusal}
+use Rattle.tile.specs.OnMap.{tile_at, no_tile_of}
 use Rattle.tile.specs.declared.OptionU8.TheVariants.{None, Some}
-use Rattle.tile_zbox.specs.Box.{box_at, box_refusal, wrong_edges, box_length, length_of}
+use Rattle.tile_zbox.specs.Box.{box_at, length_of}
 use Rattle.zoom.specs.Zooms.{zvec_set, zooms_of}
-use Rattle.zoom_bits.specs.Bits.{has_bit, those, set_of, from_to, zooms_in, any_deeper}
-use Rattle.zoom_ranges.specs.Ranges.{just_below, maximal_run, runs_below, holds_zoom, ranges_of}
+use Rattle.zoom_ranges.specs.Ranges.{ranges_of}
 
 -- the plates, in the paper's order
 pub data Plate : Type 0 where
@@ -78,25 +73,3 @@ table zoom_runs =
 -- in every row the definition gives what the paper says. An answer in lent memory is so for every memory, however long and however filled
 abbrev pub Plates : Type 0
 Plates = (p : Plate) → (table p).gives ≡ (table p).says
-
-pub plates : Plates
-unfolding tile_refusal max_zoom max_id_zoom max_entries key_from id_of id_tile_refusal level_start parent_refusal gather box_refusal wrong_edges
-    box_length has_bit those set_of zooms_in any_deeper from_to all_of just_below maximal_run runs_below holds_zoom all_digits_of key_refusal spelled
-plates key_213 = refl
-plates id_2659 = refl
-plates rmid_64 = refl
-plates root_key = refl
-plates root_id = refl
-plates root_rmid = refl
-plates parent = refl
-plates parent_2 = refl
-plates parent_3 = refl
-plates siblings = refl
-plates neighbours = refl
-plates kept_by_v1 = answers _ _ _ both_accepted v1_keeps_both
-plates kept_by_simplify = answers _ _ _ both_accepted simplify_keeps_one
-plates empty_list = answers _ _ _ none_accepted empty_settles
-plates whole_zoom = refl
-plates set_33 = refl
-plates turned_set = refl
-plates zoom_runs = refl

@@ -1,1 +1,2 @@
-// Document 01's plates as one table, and the theorem that it holds. Only definitions and theorems, in specs/. There is no code.
+// Document 01's plates as one table, and the theorem that it holds. Only definitions, in specs/, and the theorem, in proofs/. There is no code.
+#![tactic(auto)]

@@ -1,9 +1,13 @@
 // Prints the plates of document 01 that are proved, each worked out by the library. `vectors` checks the others.
+#![tactic(auto)]
+
 use constants::MAX_DIGITS;
 use errors::{Count, U32Answer, U64Answer};
-use libc::STDOUT_FILENO;
 use tile::{OptionU8, Tile, TileAnswer};
 use tile_zbox::{BoxAnswer, TileZBox};
+
+// The number of standard output, which `io` writes to.
+const STDOUT_FILENO: i32 = 1;
 
 fn main() {
     key_and_numbers(b"(3,5,3)", 3, 5, 3);

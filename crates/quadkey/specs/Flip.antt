@@ -1,7 +1,7 @@
 -- Keys with the rows flipped, digit by digit.
 use Rattle.std.specs.Prelude.{◌≡◌, refl, true, List, [], ◌∷◌, map, ℕ, zero, suc, ◌+◌, ◌-◌, ◌*◌, ◌^◌, ◌≤◌, ◌<◌, length, get_or, set}
 use Rattle.std.proofs.Common.{◌∙◌, add-one, arith, le-ltb, lt-ltb}
-use Rattle.std.proofs.lemmas.List.{length_map}
+use Rattle.std.proofs.lemmas.List.{length-map}
 use Rattle.bits.specs.Bits.{bit, bit_small, bit_complement}
 use Rattle.errors.specs.Memory.{front, front_more}
 use Rattle.quadkey.specs.Bytes.{by_digit, digits_first}
@@ -12,7 +12,7 @@ pub fill_flipped : (key memory out : List ℕ) (i d : ℕ) → i < length key �
     → out ≡ front i (map flip_digit key) memory
     → d ≡ flip_digit (get_or key i 0) → set out i d ≡ front (i + 1) (map flip_digit key) memory
 fill_flipped key memory out i d h k e f =
-    let n : i < length (map flip_digit key) = rw (length_map key flip_digit) h in
+    let n : i < length (map flip_digit key) = rw (length-map key flip_digit) h in
     let m : i < length memory = omega arith in
     let v : d ≡ get_or (map flip_digit key) i 0 = f ∙ map_at key i h in
     rw (e, v, add-one i) (front_more i (map flip_digit key) memory n m)

@@ -1,4 +1,6 @@
 // Quadkeys: a tile's key, whether bytes are a key, and the key flipped. The tile of a key is in `key_reader`.
+#![tactic(auto)]
+
 ghost use Rattle.std.specs.Prelude.{◌≡◌, true, ◌++◌, map, ◌≤◌, ◌<◌, length, drop};
 ghost use Rattle.constants.specs.Limits.{max_zoom};
 ghost use Rattle.errors.specs.Cases.{check_number, left};

@@ -3,10 +3,11 @@ use Rattle.std.specs.Prelude.{◌≡◌, refl, ◌⊎◌, Bool, true, false, not
 use Rattle.std.proofs.Common.{sym, ap, subst, ◌∙◌, inl, inr, append-nil, add-one, arith, drop_of_length-le, take_all, length-take-le, get_or-drop, get_or-append-add, eqb-true}
 use mathlib.Core.List.Memᴰ
 use mathlib.Core.List.{Memᴰ}
-use Rattle.std.proofs.lemmas.List.{length_map}
+use Rattle.std.proofs.lemmas.List.{length-map}
 use Rattle.bits.specs.Tests.{not_true, not_false, all_of, all_in, get_d_in}
 use Rattle.errors.specs.Memory.{front, front_length, front_more}
-use Rattle.ids.specs.Entry.{entry_of, entry_tile, is_entry, accepted_entry}
+use Rattle.ids.specs.Entry.{entry_of, entry_tile, is_entry}
+use Rattle.ids.proofs.EntryLemmas.{accepted_entry}
 use Rattle.tile.specs.declared.Tile.{Tile}
 use Rattle.quadtree.specs.OneTile.{morton_tile_lem, location_tile_lem}
 use Rattle.quadtree.specs.declared.Key.{Key}
@@ -97,13 +98,13 @@ pub record Mapped (f : ℕ → ℕ) (list memory : List ℕ) (i : ℕ) (left : L
 module _ {f : ℕ → ℕ} {list memory left : List ℕ} {i : ℕ} (m : Mapped f list memory i left) where
   pub mapped_length : length left ≡ length memory
   mapped_length =
-      let e = length_map list f in
+      let e = length-map list f in
       ap length m.written ∙ front_length i (map f list) memory (omega (arith, m.within)) (omega (arith, m.within, m.same))
 
   -- the next place stands as it was
   pub mapped_at : get_or left i 0 ≡ get_or memory i 0
   mapped_at =
-      let e = length_map list f in
+      let e = length-map list f in
       let l : length (take i (map f list)) ≡ i = length-take-le i (map f list) (omega (arith, m.within)) in
       let z : i + 0 ≡ i = omega arith in
       ap (λ (s : List ℕ). get_or s i 0) m.written
@@ -111,13 +112,13 @@ module _ {f : ℕ → ℕ} {list memory left : List ℕ} {i : ℕ} (m : Mapped f
 
   pub mapped_next : {v : ℕ} → i < length list → v ≡ f (get_or list i 0) → Mapped f list memory (i + 1) (set left i v)
   mapped_next {v} h e =
-      let l = length_map list f in
+      let l = length-map list f in
       let n = front_more i (map f list) memory (omega arith) (omega (arith, m.same)) in
       let s : set left i v ≡ front (i + 1) (map f list) memory = rw (m.written, e, add-one i, ← map_at f list i h) n in
       record { same = m.same; within = omega arith; written = s }
 
   pub mapped_all : length list ≤ i → left ≡ map f list
   mapped_all h =
-      let e = length_map list f in
+      let e = length-map list f in
       m.written ∙ rw (take_all i (map f list) (omega arith), drop_of_length-le memory {i = i} (omega (arith, m.same)))
       (append-nil (map f list))

@@ -1,4 +1,6 @@
 // Numbers of tiles by which lists are sorted, and whole lists turned from one number to the next.
+#![tactic(auto)]
+
 ghost use Rattle.std.specs.Prelude.{◌≡◌, map, ◌<◌, length};
 ghost use Rattle.quadtree.specs.Digits.{apart};
 ghost use Rattle.quadtree.specs.Lists.{sort_key, key_rank, rank_entry, TileNumber, TileNumbers, Keyed};
@@ -9,7 +11,7 @@ use constants::MAX_ZOOM;
 use tile::{Tile, TileAnswer};
 
 // The number of a tile that a list is sorted by.
-#[derive(Drop)]
+#[derive(Clone, Copy)]
 pub enum Key {
     Location,
     Morton,

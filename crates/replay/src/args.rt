@@ -6,7 +6,7 @@ use tile::{OptionU8, Tile};
 const NONE: u64 = 256;
 
 // How many entries were given.
-#[derive(Drop)]
+#[derive(Clone, Copy)]
 pub enum ListArg {
     Given(usize),
     Bad,

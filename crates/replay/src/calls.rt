@@ -5,7 +5,7 @@ use crate::parse::{Parsed, Shape};
 use crate::{lines, parse, parts};
 
 // A call, its line, and how many calls there are up to it. At the end of the list none is found.
-#[derive(Drop)]
+#[derive(Clone, Copy)]
 pub struct Call {
     pub found: bool,
     pub count: u64,

@@ -5,7 +5,7 @@ use crate::parts;
 
 // A line is the bytes from `start` to `end`; the next one starts at `next`. The input is read up to `filled`: 0 at its end. A line without
 // a newline ends at `filled`.
-#[derive(Drop)]
+#[derive(Clone, Copy)]
 pub struct Line {
     pub start: usize,
     pub end: usize,

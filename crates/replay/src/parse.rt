@@ -5,14 +5,14 @@ ghost use Rattle.replay.specs.Within.{EndsPast, CallFits};
 use crate::parts;
 
 // How many bytes the name of a call has, how many arguments follow it, and how many numbers its answer has.
-#[derive(Drop)]
+#[derive(Clone, Copy)]
 pub struct Shape {
     pub name: usize,
     pub args: usize,
     pub answers: usize,
 }
 
-#[derive(Drop)]
+#[derive(Clone, Copy)]
 pub enum Parsed {
     Call(Shape),
     Heading,
@@ -20,7 +20,7 @@ pub enum Parsed {
 }
 
 // What stands at a place of a line, and the place behind it.
-#[derive(Drop)]
+#[derive(Clone, Copy)]
 pub enum Token {
     Number(u64, usize),
     Equals(usize),

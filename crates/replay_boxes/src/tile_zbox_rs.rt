@@ -110,8 +110,7 @@ fn records_length(boxes: &[u64], want: &[u64]) -> bool {
     answers::same_u64(lend(room, n), want)
 }
 
-// The first n boxes are lent. The borrow checker covers no function that makes a slice of structs: this one is proved by hand, so that
-// the others need not be.
+// The first n boxes are lent.
 fn lend(boxes: [TileZBox; 40], n: usize) -> U64Answer
     requires { n ≤ length boxes }
     ensures { u64_case result ≡ boxes_length_of (take n boxes) }

@@ -1,5 +1,7 @@
 // Plays builds: calls on lists of their own, or on what earlier calls of the build gave. Prints each line whose answer, or the memory
 // that it left, is not what the list says.
+#![tactic(auto)]
+
 ghost use Rattle.std.specs.Prelude.{◌+◌, ◌≤◌, length};
 
 use errors::Count;
@@ -16,7 +18,7 @@ const CALLS: usize = 12;
 const KEPT: usize = 2048;
 
 // Where the answer of a call is kept, if it gave one.
-#[derive(Drop)]
+#[derive(Clone, Copy)]
 struct Place {
     given: bool,
     from: usize,
@@ -24,7 +26,7 @@ struct Place {
 }
 
 // How many calls of a build were made, how many places their answers take, and where each is.
-#[derive(Drop)]
+#[derive(Clone, Copy)]
 struct Build {
     calls: usize,
     filled: usize,
@@ -32,13 +34,13 @@ struct Build {
 }
 
 // Whether a line is as the list says, and the build after it.
-#[derive(Drop)]
+#[derive(Clone, Copy)]
 struct Played {
     same: bool,
     build: Build,
 }
 
-#[derive(Drop)]
+#[derive(Clone, Copy)]
 enum Work {
     Simplify,
     Union,
@@ -46,7 +48,7 @@ enum Work {
     Difference,
 }
 
-#[derive(Drop)]
+#[derive(Clone, Copy)]
 enum WorkArg {
     Given(Work),
     Bad,
@@ -54,7 +56,7 @@ enum WorkArg {
 
 // A list that is handed in: `count` entries from a place on, of the line's own numbers or of the answers. `next` is the place behind it
 // in the line.
-#[derive(Drop)]
+#[derive(Clone, Copy)]
 struct Operand {
     good: bool,
     own: bool,

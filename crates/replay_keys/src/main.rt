@@ -1,4 +1,6 @@
 // Replays keys fed byte by byte, and readers that a caller fills himself. Prints each line whose answer is not what the list says.
+#![tactic(auto)]
+
 use key_reader::{FeedAnswer, KeyReader};
 use replay::args::ListArg;
 use replay::{answers, args, calls, names, parts};

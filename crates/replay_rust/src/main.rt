@@ -1,5 +1,7 @@
 // Replays the Rust's answers, with a module for each of its files, here or in `replay_boxes`. Prints the name of each module and how many
 // calls of it the list has, and each line whose answer, or the memory that the call left, is not what the list says.
+#![tactic(auto)]
+
 mod fns_rs;
 mod merge_rs;
 mod parent_rs;

@@ -20,7 +20,7 @@ use Rattle.settle.specs.Settle.{Settles, Popped, Family, Joins, stop, join}
 use Rattle.settle.specs.Stack.{Among, InStack, Stack, Onto, stack_none, rise_apart, pop_under, pop_top, join_holds, join_under}
 use Rattle.settle.specs.Stack.{join_end, join_top, push, push_under}
 
-pub joins_less : {m c j n k : ℕ} {l : List ℕ} → Joins m l c j n k → c ≤ n
+pub joins_less : {m c j : ℕ} {l : List ℕ} {n k : ℕ} → Joins m l c j n k → c ≤ n
 joins_less (stop f) = omega arith
 joins_less (join p f r) = omega (arith, joins_less r)
 
@@ -33,11 +33,11 @@ record Joined (m : ℕ) (S : Tile → Bool) (l : List ℕ) (c j n k : ℕ) : Typ
   holds : Holds (location_tile j) (location_tile k)
   keeps : (x : Tile) → InStack (tiles l) n x → InStack (tiles l) c x ⊎ Holds (location_tile j) x
 
-joins_done : {m c j n k : ℕ} {l : List ℕ} (S : Tile → Bool) → Joins m l c j n k → IsLocation k → Onto m S (tiles l) n (location_tile k)
+joins_done : {m c j : ℕ} {l : List ℕ} (S : Tile → Bool) {n k : ℕ} → Joins m l c j n k → IsLocation k → Onto m S (tiles l) n (location_tile k)
     → Joined m S l c j n k
 joins_done {j = j} S (stop f) s g =
     record { top = g; none = f; location = s; ends = refl; holds = holds_refl (location_tile j); keeps = λ x u. inl u }
-joins_done {m} {n = n} {k = k} {l = l} S (join p f r) s g =
+joins_done {m} {l = l} S {n = n} {k = k} (join p f r) s g =
     let o : OfMap p = parent_of_map p (rw f.fourth at g.of_map) in
     let e : location_tile (location_of p) ≡ p = location_tile_lem p o in
     let d = joins_done S r (tile_location p o) (rw e (join_top m S (tiles l) n (location_tile k) p f g)) in

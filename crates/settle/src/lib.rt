@@ -1,4 +1,6 @@
 // One pass over the locations of tiles in order: tiles that lie in others are dropped, and families are joined until none is left.
+#![tactic(auto)]
+
 ghost use Rattle.std.specs.Prelude.{◌≡◌, true, ◌↔◌, ◌≤◌, length};
 ghost use Rattle.constants.specs.Limits.{max_zoom};
 ghost use Rattle.quadtree.specs.Lists.{TileNumbers};
@@ -49,7 +51,7 @@ pub fn settle(locations: &mut [u64], m: u8) -> usize
 }
 
 // A location that goes on top of `count` others.
-#[derive(Drop)]
+#[derive(Clone, Copy)]
 struct Top {
     count: usize,
     location: u64,

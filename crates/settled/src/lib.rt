@@ -1,4 +1,6 @@
 // Whether a list is settled, by the locations of its tiles along the quadtree.
+#![tactic(auto)]
+
 ghost use Rattle.std.specs.Prelude.{◌≡◌, true, map};
 ghost use Rattle.bits.specs.Tests.{all_of};
 ghost use Rattle.ids.specs.Entry.{is_entry};

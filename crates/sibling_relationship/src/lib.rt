@@ -1,8 +1,10 @@
 // Which child of its parent a tile is.
+#![tactic(auto)]
+
 ghost use Rattle.std.specs.Prelude.{◌≡◌};
 ghost use Rattle.sibling_relationship.specs.Relation.{relation_number, relation_at};
 
-#[derive(Drop)]
+#[derive(Clone, Copy)]
 pub enum SiblingRelationship {
     UpperLeft,
     UpperRight,

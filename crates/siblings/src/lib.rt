@@ -1,4 +1,6 @@
 // The other three tiles of a tile's family, as list entries.
+#![tactic(auto)]
+
 ghost use Rattle.std.specs.Prelude.{◌≡◌};
 ghost use Rattle.errors.specs.Cases.{left};
 ghost use Rattle.siblings.specs.Siblings.{other, siblings_written};

@@ -3,4 +3,3 @@ pub mod OnMap
 pub mod Order
 pub mod Rust
 pub mod Steps
-pub mod Theorems

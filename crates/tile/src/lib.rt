@@ -1,4 +1,6 @@
 // A tile of the map by column, row and zoom: its check, its order, and the steps to the tiles beside it.
+#![tactic(auto)]
+
 ghost use Rattle.std.specs.Prelude.{◌≡◌, ◌<◌};
 ghost use Rattle.errors.specs.Cases.{check_number, u32_case};
 ghost use Rattle.tile.specs.Option.{unwrap_or};
@@ -11,7 +13,7 @@ use constants::MAX_ZOOM;
 use errors::{Check, Refusal, U32Answer};
 
 // x grows east, y south.
-#[derive(Drop)]
+#[derive(Clone, Copy)]
 pub struct Tile {
     pub x: u32,
     pub y: u32,
@@ -19,14 +21,14 @@ pub struct Tile {
 }
 
 // What a call that names a tile answers.
-#[derive(Drop)]
+#[derive(Clone, Copy)]
 pub enum TileAnswer {
     Found(Tile),
     Refused(Refusal),
 }
 
 // An argument that may be left out: the Rust's Option<u8>.
-#[derive(Drop)]
+#[derive(Clone, Copy)]
 pub enum OptionU8 {
     None,
     Some(u8),
@@ -44,7 +46,7 @@ impl OptionU8 {
     }
 }
 
-#[derive(Drop)]
+#[derive(Clone, Copy)]
 pub enum Ordering {
     Less,
     Equal,
@@ -52,7 +54,7 @@ pub enum Ordering {
 }
 
 // A step along one axis: to the number below, none, or to the number above.
-#[derive(Drop)]
+#[derive(Clone, Copy)]
 pub enum Step {
     Back,
     Stay,
@@ -192,7 +194,7 @@ impl Tile {
 }
 
 // Where a step along an axis leads.
-#[derive(Drop)]
+#[derive(Clone, Copy)]
 enum Coordinate {
     At(u32),
     Off,

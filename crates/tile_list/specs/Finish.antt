@@ -3,7 +3,7 @@ use Rattle.std.specs.Prelude.{◌≡◌, refl, Bool, true, ℕ, ◌-◌, ◌≤�
 use Rattle.std.proofs.Common.{sym, ap, ◌∙◌, arith, length-append, length-take-le, take_at}
 use mathlib.Core.List.Memᴰ
 use mathlib.Core.List.{List, [], ◌∷◌, ◌++◌, map, append_assoc, Memᴰ}
-use Rattle.std.proofs.lemmas.List.{length_map, length-replicate, take-append-le}
+use Rattle.std.proofs.lemmas.List.{length-map, length-replicate, take-append-le}
 use Rattle.bits.specs.Tests.{in_map, into_map}
 use Rattle.constants.specs.Limits.{max_zoom}
 use Rattle.ids.specs.Entry.{entries_of}
@@ -112,7 +112,7 @@ module _ (by : Key) (keys ranked sorted once : List ℕ) (r : ℕ) (h : TileNumb
       (rw (length-append part rest) (omega (arith, size)), take_at part rest r size ∙ (g ∙ ap (map rank_entry) front))
     where
       size : length part ≡ r
-      size = ap length g ∙ (length_map (take r once) rank_entry ∙ length-take-le r once o.within)
+      size = ap length g ∙ (length-map (take r once) rank_entry ∙ length-take-le r once o.within)
 
 -- lent memory that holds a set as a list, with 0 in every place behind it, and how many entries that is
 pub record Listed (S : Tile → Bool) (memory : List ℕ) (count : ℕ) : Type 0 where

@@ -5,7 +5,8 @@ use mathlib.Core.List.{List, map, Memᴰ}
 use Rattle.bits.specs.Tests.{and_parts, all_of, all_in, in_any, any_in, in_map, into_map}
 use Rattle.constants.specs.Limits.{max_zoom, max_entries}
 use Rattle.errors.specs.Answer.{◌when◌, ◌else◌}
-use Rattle.ids.specs.Entry.{entry_tile, is_entry, accepted_entry}
+use Rattle.ids.specs.Entry.{entry_tile, is_entry}
+use Rattle.ids.proofs.EntryLemmas.{accepted_entry}
 use Rattle.quadtree.specs.Lists.{sort_key, sort_tile, entry_key, key_tile_lem, TileNumbers}
 use Rattle.quadtree.specs.Numbers.{OfMap}
 use Rattle.quadtree.specs.Locations.{valid_tile}

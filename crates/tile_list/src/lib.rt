@@ -1,4 +1,6 @@
 // From the sort keys of a set's tiles to the set as a list in lent memory: entries in list order, each once, and 0 behind them.
+#![tactic(auto)]
+
 ghost use Rattle.std.specs.Prelude.{◌≡◌, map, ◌≤◌, length, take};
 ghost use Rattle.quadtree.specs.Lists.{sort_key, sort_tile, TileNumbers};
 ghost use Rattle.tile_list.specs.Finish.{finished, Listed};

@@ -5,7 +5,7 @@ use Rattle.std.proofs.Math.Logic.{inl, inr, ⊎_elim}
 use Rattle.std.proofs.Math.Bool.{not, and-eq-true_iff, and-false, or-true}
 use Prim.Native.Nat.{ℕ, zero, suc, ◌+◌, ◌%◌, ◌≤◌, ◌<◌}
 use Rattle.std.proofs.Math.Decide.{dec_lt}
-use borrow.Author.Tests.{leb-true, le-leb, ltb-true, lt-ltb, not_true}
+use borrow.Author.Tests.{leb-true, le-leb, ltb-true, lt-ltb, not-true}
 use Rattle.tile.specs.declared.Tile.{Tile}
 use Rattle.tile_set.specs.Holds.{Holds, holds_refl, holds_trans, holds_level, child_held, in_a_child}
 use Rattle.tile_set.specs.Holds.{parent_holds, parent_of_child, Valid}
@@ -102,7 +102,7 @@ module _ (m : ℕ) (S : Tile → Bool) where
   pub merged_cases : (t : Tile) → merged m S t ≡ true → ((S t ≡ true) × (joins m S t ≡ false)) ⊎ (joined m S t ≡ true)
   unfolding merged
   merged_cases t e =
-      ⊎_elim (λ k. let i = (and-eq-true_iff (S t) (not (joins m S t))).0 k in inl (i.0, not_true (joins m S t) i.1)) inr
+      ⊎_elim (λ k. let i = (and-eq-true_iff (S t) (not (joins m S t))).0 k in inl (i.0, not-true (joins m S t) i.1)) inr
       (or_cases (S t && not (joins m S t)) (joined m S t) e)
 
   pub merged_kept : (t : Tile) → S t ≡ true → joins m S t ≡ false → merged m S t ≡ true

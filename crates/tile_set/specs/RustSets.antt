@@ -5,7 +5,7 @@ use Rattle.std.proofs.Math.Logic.{inl, inr, ⊎_elim}
 use Rattle.std.proofs.Math.Bool.{true≢false, and-eq-true_iff, or-true}
 use mathlib.Core.List.Memᴰ
 use mathlib.Core.List.{List, [], ◌∷◌, foldl, Memᴰ}
-use borrow.Author.Tests.{eqb-true, eq-eqb, not_true}
+use borrow.Author.Tests.{eqb-true, eq-eqb, not-true}
 use Rattle.tile.specs.Order.{tile_ext}
 use Rattle.tile.specs.declared.Tile.{Tile}
 use Rattle.tile_set.specs.Holds.{child_of_parent}
@@ -46,7 +46,7 @@ module _ (a : Tile) (S : Tile → Bool) where
   unfolding remove
   remove_of t e =
       let i = (and-eq-true_iff (not (same_tile t a)) (S t)).0 e in
-      (λ k. true≢false (sym (same_as_itself a) ∙ (ap (λ (u : Tile). same_tile u a) (sym k) ∙ not_true (same_tile t a) i.0)), i.1)
+      (λ k. true≢false (sym (same_as_itself a) ∙ (ap (λ (u : Tile). same_tile u a) (sym k) ∙ not-true (same_tile t a) i.0)), i.1)
 
   remove_in : (t : Tile) → (t ≡ a → ⊥) → S t ≡ true → remove a S t ≡ true
   unfolding remove

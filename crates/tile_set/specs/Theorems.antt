@@ -2,7 +2,7 @@
 -- of the map.
 use Rattle.std.specs.Prelude.{◌≡◌, refl, ◌↔◌, Bool, true, false, ℕ, zero, suc, ◌+◌, ◌<◌}
 use Rattle.std.proofs.Common.{sym, ◌∙◌, ⊎_elim, true≢false, arith}
-use Rattle.std.proofs.Math.Logic.{Iff·trans}
+use Rattle.std.proofs.Math.Logic.Iff
 use Rattle.tile.specs.OnMap.{tile_at}
 use Rattle.tile.specs.declared.Tile.{Tile}
 use Rattle.tile_set.specs.Holds.{Holds, holds_trans, in_a_child}
@@ -38,7 +38,7 @@ passes_keep_ground : {D : ℕ} (n m : ℕ) (S : Tile → Bool) → Within D S �
 unfolding passes
 passes_keep_ground zero m S w X Y = (λ g. g, λ g. g)
 passes_keep_ground (suc n) m S w X Y =
-    Iff·trans (passes_keep_ground n m S w X Y) (merge_keeps_ground m (passes n m S) (passes_within n m S w) X Y)
+    Iff.trans (passes_keep_ground n m S w X Y) (merge_keeps_ground m (passes n m S) (passes_within n m S w) X Y)
 
 uncovered_keeps_ground : {D : ℕ} (k : ℕ) (S : Tile → Bool) (X Y : ℕ) → Covered D S X Y ↔ Covered D (uncovered k S) X Y
 uncovered_keeps_ground k S X Y =
@@ -47,13 +47,13 @@ uncovered_keeps_ground k S X Y =
 pub simplify_keeps_ground : {D : ℕ} (m : ℕ) (S : Tile → Bool) → Within D S → (X Y : ℕ) → Covered D S X Y ↔ Covered D (simplified D m S) X Y
 unfolding simplified
 simplify_keeps_ground {D} m S w X Y =
-    Iff·trans (uncovered_keeps_ground 0 S X Y) (passes_keep_ground D m (uncovered 0 S) (uncovered_within 0 S w) X Y)
+    Iff.trans (uncovered_keeps_ground 0 S X Y) (passes_keep_ground D m (uncovered 0 S) (uncovered_within 0 S w) X Y)
 
 pub simplify_v1_keeps_ground : {D : ℕ} (m : ℕ) (S : Tile → Bool) → Within D S → (X Y : ℕ)
     → Covered D S X Y ↔ Covered D (simplified_v1 D m S) X Y
 unfolding simplified_v1
 simplify_v1_keeps_ground {D} m S w X Y =
-    Iff·trans (uncovered_keeps_ground m S X Y) (passes_keep_ground D m (uncovered m S) (uncovered_within m S w) X Y)
+    Iff.trans (uncovered_keeps_ground m S X Y) (passes_keep_ground D m (uncovered m S) (uncovered_within m S w) X Y)
 
 -- "`merge` until nothing changes": the D passes of the definition are enough
 pub simplify_still : {D : ℕ} (m : ℕ) (S : Tile → Bool) → Within D S → (t : Tile) → merged m (simplified D m S) t ≡ simplified D m S t

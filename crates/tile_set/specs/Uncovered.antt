@@ -6,7 +6,7 @@ use Rattle.std.proofs.Math.Logic.{inl, inr}
 use Rattle.std.proofs.Math.Bool.{true, false, not, true≢false, and-eq-true_iff, or-true}
 use Rattle.std.proofs.lemmas.Bool.{false≢true}
 use Rattle.std.proofs.Math.Decide.{dec_lt}
-use borrow.Author.Tests.{not_true}
+use borrow.Author.Tests.{not-true}
 use Rattle.tile.specs.declared.Tile.{Tile}
 use Rattle.tile_set.specs.Holds.{Holds, holds_refl, holds_trans, holds_level, ancestor_holds, holder_is_ancestor}
 use Rattle.tile_set.specs.Merged.{Within, Covers, Apart, or_cases}
@@ -37,7 +37,7 @@ module _ (k : ℕ) (S : Tile → Bool) where
   uncovered_of t e =
       let covered = any_below (t.z - k) (λ s. S (ancestor t s)) in
       let i = (and-eq-true_iff (S t) (not covered)).0 e in
-      (i.0, λ s h a. true≢false (sym (any_below_in (t.z - k) (λ s. S (ancestor t s)) s h a) ∙ not_true covered i.1))
+      (i.0, λ s h a. true≢false (sym (any_below_in (t.z - k) (λ s. S (ancestor t s)) s h a) ∙ not-true covered i.1))
 
   pub uncovered_or : (t : Tile) → S t ≡ true → (uncovered k S t ≡ true) ⊎ ((s : ℕ) × (s < t.z - k) × (S (ancestor t s) ≡ true))
   unfolding uncovered

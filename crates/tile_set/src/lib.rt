@@ -1,1 +1,2 @@
 // Sets of tiles: only definitions and theorems, in specs/. There is no code.
+#![tactic(auto)]

@@ -1,5 +1,7 @@
 // A box of tiles of one zoom, both ends included: its check, and what is made of it. Its tiles one by one are in `tile_zbox_iter`, the box
 // around listed tiles in `tile_zbox_around`, and boxes as plain numbers in `tile_zbox_numbers`.
+#![tactic(auto)]
+
 ghost use Rattle.std.specs.Prelude.{◌≡◌, ◌+◌, ◌≤◌};
 ghost use Rattle.constants.specs.Limits.{max_zoom};
 ghost use Rattle.errors.specs.Cases.{check_number, bool_case, u32_case, u64_case};
@@ -10,7 +12,7 @@ ghost use Rattle.tile_zbox.specs.Box.{box_length, length_of, dx_of, dy_of, dxdy_
 use constants::MAX_ZOOM;
 use errors::{BoolAnswer, Check, Refusal, U32Answer, U64Answer};
 
-#[derive(Drop)]
+#[derive(Clone, Copy)]
 pub struct TileZBox {
     pub zoom: u8,
     pub minx: u32,
@@ -20,20 +22,20 @@ pub struct TileZBox {
 }
 
 // What a call that gives a box answers.
-#[derive(Drop)]
+#[derive(Clone, Copy)]
 pub enum BoxAnswer {
     Found(TileZBox),
     Refused(Refusal),
 }
 
 // A number of columns, and one of rows.
-#[derive(Drop)]
+#[derive(Clone, Copy)]
 pub struct Extent {
     pub across: u32,
     pub down: u32,
 }
 
-#[derive(Drop)]
+#[derive(Clone, Copy)]
 pub enum ExtentAnswer {
     Found(Extent),
     Refused(Refusal),

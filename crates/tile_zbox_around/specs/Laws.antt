@@ -1,6 +1,6 @@
 -- Laws of the lists that boxes are put around: which are refused, and the box entry by entry.
 use Rattle.std.specs.Prelude.{◌≡◌, refl, Bool, true, false, not, List, [], ◌∷◌, ◌++◌, map, ℕ, zero, suc, ◌+◌, ◌≤◌, ◌<◌, min, max, ltb, eqb, length, take, get_or}
-use Rattle.std.proofs.lemmas.List.{map_append}
+use Rattle.std.proofs.lemmas.List.{map-append}
 use Rattle.std.proofs.Math.Nat.{max-zero}
 use Rattle.std.proofs.Common.{add-one, arith, take-suc, ltb-false, lt-ltb, le-ltb, eqb-true, eq-eqb, ne_eqb}
 use Rattle.std.proofs.lemmas.Bool.{eqb-false}
@@ -92,8 +92,8 @@ around_more (n ∷ ns) (suc i) h k =
     rw (
       add-one (suc i),
       take-suc ns i 0 l,
-      map_append entry_column (take i ns) (m ∷ []),
-      map_append entry_row (take i ns) (m ∷ []),
+      map-append entry_column (take i ns) (m ∷ []),
+      map-append entry_row (take i ns) (m ∷ []),
       least_more (entry_column n) (map entry_column (take i ns)) (entry_column m),
       least_more (entry_row n) (map entry_row (take i ns)) (entry_row m),
       greatest_more (entry_column n ∷ map entry_column (take i ns)) (entry_column m),

@@ -3,7 +3,8 @@ use Rattle.std.specs.Prelude.{◌≡◌, List, [], ◌∷◌, map, ℕ, zero, su
 use Rattle.std.proofs.Common.{◌∙◌, subst, arith, pow_pos, eqb-true}
 use Rattle.std.proofs.Math.Nat.{min-le_left, min-le_right, le-max_left, le-max_right, le-min, max-le}
 use Rattle.bits.specs.Tests.{all_at}
-use Rattle.ids.specs.Entry.{entry_tile, accepted_entry}
+use Rattle.ids.specs.Entry.{entry_tile}
+use Rattle.ids.proofs.EntryLemmas.{accepted_entry}
 use Rattle.tile.specs.OnMap.{OnMap}
 use Rattle.tile.specs.declared.Tile.{Tile}
 use Rattle.tile_zbox.specs.Box.{IsBox, HoldsTile}

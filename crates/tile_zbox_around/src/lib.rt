@@ -1,4 +1,6 @@
 // The smallest box of listed tiles.
+#![tactic(auto)]
+
 ghost use Rattle.std.specs.Prelude.{◌≡◌, true, ◌<◌, min, max, length};
 ghost use Rattle.bits.specs.Tests.{all_of};
 ghost use Rattle.errors.specs.Cases.{check_number};

@@ -1,4 +1,6 @@
 // The tiles of one box one by one, as a cursor gives them, and the cursor's size hint.
+#![tactic(auto)]
+
 ghost use Rattle.std.specs.Prelude.{◌≡◌, ◌+◌, ◌<◌};
 ghost use Rattle.errors.specs.Cases.{u64_case};
 ghost use Rattle.tile.specs.OnMap.{tile_at};
@@ -10,13 +12,13 @@ use tile::Tile;
 use tile_zbox::TileZBox;
 
 // The tiles of a box one by one, x first, then y: the box, and how many of its tiles were given.
-#[derive(Drop)]
+#[derive(Clone, Copy)]
 pub struct TileZBoxIterator {
     pub range: TileZBox,
     pub given: u64,
 }
 
-#[derive(Drop)]
+#[derive(Clone, Copy)]
 pub enum NextAnswer {
     // A tile, and the cursor that gives the next one.
     Given(Tile, TileZBoxIterator),

@@ -1,7 +1,7 @@
 -- Boxes five numbers by five numbers: as the code reads them one after the other, and as it writes them flipped.
 use Rattle.std.specs.Prelude.{◌≡◌, refl, List, [], ◌∷◌, ◌++◌, map, ℕ, zero, suc, ◌+◌, ◌-◌, ◌*◌, ◌/◌, ◌%◌, ◌≤◌, ◌<◌, length, take, drop, get_or, set}
 use Rattle.std.proofs.Common.{sym, ap, ◌∙◌, append_assoc, add-zero, arith, length-drop, length-append, drop-drop, get_or-drop, take-add, take_at, drop_at, length-take-le}
-use Rattle.std.proofs.lemmas.List.{length_map}
+use Rattle.std.proofs.lemmas.List.{length-map}
 use Rattle.std.proofs.lemmas.List.Edits.{sets, sets-eq}
 use Rattle.errors.specs.Memory.{front}
 use Rattle.tile_zbox.specs.Box.{box_at, flipped}
@@ -52,7 +52,7 @@ numbers_length [] = refl
 numbers_length (b ∷ bs) = omega (arith, numbers_length bs)
 
 pub flipped_length : (l : List ℕ) → length l % 5 ≡ 0 → length (flipped_numbers l) ≡ length l
-flipped_length l e = rw (numbers_length (map flipped (boxes_of l)), length_map (boxes_of l) flipped, boxes_count (length l / 5) l)
+flipped_length l e = rw (numbers_length (map flipped (boxes_of l)), length-map (boxes_of l) flipped, boxes_count (length l / 5) l)
     (omega arith)
 
 -- a few numbers more at the front of the memory

@@ -1,5 +1,7 @@
 // Several boxes as plain numbers, five for each: zoom, minx, maxx, miny, maxy. The Rust's `TileZBoxes`, whose boxes as records are in
 // `tile_zboxes`.
+#![tactic(auto)]
+
 ghost use Rattle.std.specs.Prelude.{◌≡◌, false, ◌++◌, ◌+◌, ◌≤◌, length, drop, get_or};
 ghost use Rattle.std.proofs.lemmas.List.Edits.{sets};
 ghost use Rattle.bits.specs.Tests.{any_of};

@@ -1,5 +1,7 @@
 // `TileZBoxes` as a lent list of box records: the sum of the boxes' lengths, overlaps counted twice. The same of boxes that are
 // plain numbers is `tile_zbox_numbers::boxes_length`.
+#![tactic(auto)]
+
 ghost use Rattle.std.specs.Prelude.{◌≡◌, [], ◌+◌, ◌<◌, ◌^◌};
 ghost use Rattle.errors.specs.Answer.{answer};
 ghost use Rattle.errors.specs.Cases.{u64_case, refused_as};
@@ -11,8 +13,8 @@ use constants::MAX_BOXES;
 use errors::{Refusal, U64Answer};
 use tile_zbox::TileZBox;
 
-// The first refusal over all boxes and their count, or else the sum. The borrow checker covers no function over a slice of structs:
-// this one is proved by hand, and so it only reads the boxes one by one. What is done with them is in the functions below.
+// The first refusal over all boxes and their count, or else the sum. It only reads the boxes one by one: what is done with them is in the
+// functions below.
 pub fn boxes_length(boxes: &[TileZBox]) -> U64Answer
     ensures { u64_case result ≡ boxes_length_of boxes.now }
 {

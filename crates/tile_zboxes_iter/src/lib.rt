@@ -1,5 +1,7 @@
 // The tiles of several boxes one by one: the cursor over `TileZBoxes`, whose boxes are plain numbers as for
 // `tile_zbox_numbers::boxes_length`, five for each: zoom, minx, maxx, miny, maxy.
+#![tactic(auto)]
+
 ghost use Rattle.std.specs.Prelude.{◌≡◌, ◌<◌, length, get_or};
 ghost use Rattle.tile.specs.OnMap.{no_tile_of};
 ghost use Rattle.tile_zbox_numbers.specs.Boxes.{boxes_of, numbers_refusal};
@@ -9,12 +11,12 @@ use errors::{Refusal, U64Answer};
 use tile::Tile;
 
 // All tiles of the first box, then those of the second, and so on: how many were given in all. The boxes are lent to each call.
-#[derive(Drop)]
+#[derive(Clone, Copy)]
 pub struct TileZBoxesIterator {
     pub given: u64,
 }
 
-#[derive(Drop)]
+#[derive(Clone, Copy)]
 pub enum BoxesNextAnswer {
     // A tile, and the cursor that gives the next one.
     Given(Tile, TileZBoxesIterator),

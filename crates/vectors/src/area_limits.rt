@@ -10,7 +10,7 @@ use vectors_lines::{tally, text};
 // Places enough for two lists of 65,537 entries.
 const ROOM: usize = 131074;
 
-#[derive(Drop)]
+#[derive(Clone, Copy)]
 enum Work {
     Union,
     CommonPart,

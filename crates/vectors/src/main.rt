@@ -1,5 +1,7 @@
 // Checks the library against the Slippy map page's examples and the limits of lists in document 01: a line for each says what the source
 // says and what the library gives. The last line counts them, and those that differ. `vectors_keys` has what is about keys.
+#![tactic(auto)]
+
 mod area_limits;
 mod limits;
 mod slippy;

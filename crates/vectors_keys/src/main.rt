@@ -1,5 +1,7 @@
 // Checks the library against the Bing Maps page's examples and what the papers say of keys, of zoom 30 and of steps up: a line for each
 // says what the source says and what the library gives. The last line counts them, and those that differ.
+#![tactic(auto)]
+
 mod bing;
 mod deepest;
 mod keys;

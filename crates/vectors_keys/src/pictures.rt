@@ -40,7 +40,7 @@ fn row(before: Tally, level: u8, y: u32, shown: &[u8]) -> Tally {
 }
 
 // A row from the left on: the library's keys of its tiles, where the picture shows them, and the library's tiles of the picture's keys.
-#[derive(Drop)]
+#[derive(Clone, Copy)]
 struct Walk {
     keys: Text,
     places: Text,

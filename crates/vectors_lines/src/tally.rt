@@ -2,7 +2,7 @@
 use crate::text::Text;
 use replay::parts;
 
-#[derive(Drop)]
+#[derive(Clone, Copy)]
 pub struct Tally {
     pub checked: u64,
     pub differ: u64,

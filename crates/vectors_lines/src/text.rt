@@ -10,7 +10,7 @@ const ROOM: usize = 96;
 pub const LONGEST_KEY: usize = 30;
 
 // The first bytes, as many as the length says.
-#[derive(Drop)]
+#[derive(Clone, Copy)]
 pub struct Text {
     pub bytes: [u8; ROOM],
     pub length: usize,

@@ -3,5 +3,4 @@ pub mod Steps
 pub mod Told
 pub mod One
 pub mod Pairs
-pub mod Places
 pub mod Overlaid

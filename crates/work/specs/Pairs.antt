@@ -3,7 +3,7 @@ use Rattle.std.specs.Prelude.{◌≡◌, refl, Bool, true, false, not, List, ◌
 use Rattle.std.proofs.Common.{sym, ap, ap₂, ◌∙◌, arith, length-append, take_at, drop_at}
 use Rattle.std.proofs.lemmas.Bool.{false≢true}
 use borrow.Rule.Slice.PartMut.{put_mid}
-use Rattle.std.proofs.lemmas.List.{length_map}
+use Rattle.std.proofs.lemmas.List.{length-map}
 use Rattle.bits.specs.Tests.{and_parts, not_true, not_false, all_of}
 use Rattle.exchange.specs.Laws.{both_parts}
 use Rattle.ids.specs.Entry.{is_entry}
@@ -25,10 +25,10 @@ module _ {a b keys : List ℕ} (k : KeyedBoth a b keys true) where
   both_entries = and_parts (all_of is_entry a) (all_of is_entry b) (sym k.answer)
 
   pub first_keys : take (length a) keys ≡ keys_of a
-  first_keys = ap (take (length a)) (k.both refl) ∙ take_at (keys_of a) (keys_of b) (length a) (length_map a (entry_key Location))
+  first_keys = ap (take (length a)) (k.both refl) ∙ take_at (keys_of a) (keys_of b) (length a) (length-map a (entry_key Location))
 
   pub second_keys : drop (length a) keys ≡ keys_of b
-  second_keys = ap (drop (length a)) (k.both refl) ∙ drop_at (keys_of a) (keys_of b) (length a) (length_map a (entry_key Location))
+  second_keys = ap (drop (length a)) (k.both refl) ∙ drop_at (keys_of a) (keys_of b) (length a) (length-map a (entry_key Location))
 
 -- each list is tested in its part: what is told of the first is told of both, or the second is tested
 
@@ -91,7 +91,7 @@ module _ {a b keys : List ℕ} {fine : Bool} (k : KeyedBoth a b keys fine) where
 -- the locations of both as two settled sets
 module _ {a b keys : List ℕ} (r : InRuns a b keys) where
   locations_length : length (locations_of a) ≡ length a
-  locations_length = sort_length (keys_of a) ∙ length_map a (entry_key Location)
+  locations_length = sort_length (keys_of a) ∙ length-map a (entry_key Location)
 
   pub first_locations : take (length a) keys ≡ locations_of a
   first_locations = ap (take (length a)) r.locations ∙ take_at (locations_of a) (locations_of b) (length a) locations_length

@@ -1,5 +1,7 @@
 // What is done with lists once there is scratch for it: the entries are tested and turned to locations, and handed to what knows
 // locations only and refuses nothing.
+#![tactic(auto)]
+
 ghost use Rattle.std.specs.Prelude.{◌≡◌, true, [], suc, ◌+◌, ◌*◌, ◌≤◌, ltb, length, take, drop};
 ghost use Rattle.constants.specs.Limits.{max_entries};
 ghost use Rattle.errors.specs.Answer.{number_of};
@@ -13,7 +15,7 @@ use errors::Refusal;
 use quadtree::Key;
 
 // What leaves fewer tiles of one list.
-#[derive(Drop)]
+#[derive(Clone, Copy)]
 pub enum Simplification {
     Merge,
     SimplifyV1,
@@ -21,7 +23,7 @@ pub enum Simplification {
 }
 
 // What is made of two settled lists.
-#[derive(Drop)]
+#[derive(Clone, Copy)]
 pub enum Overlay {
     Union,
     Common,
@@ -29,7 +31,7 @@ pub enum Overlay {
 }
 
 // What is done with lists. Only an overlay has a second one; for the others it is empty.
-#[derive(Drop)]
+#[derive(Clone, Copy)]
 pub enum Work {
     Simplified(Simplification),
     Tested,

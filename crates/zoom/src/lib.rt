@@ -1,4 +1,6 @@
 // Zooms: sets of them as the bits of a number, and lists of them.
+#![tactic(auto)]
+
 ghost use Rattle.std.specs.Prelude.{◌≡◌, suc, ◌-◌, ◌^◌};
 ghost use Rattle.std.specs.Int.Bits.{bit_and};
 ghost use Rattle.errors.specs.Answer.{written};
@@ -13,11 +15,11 @@ use errors::{Check, Count, Refusal, U32Answer};
 use zoom_bits::{LAST_ZOOM, TURN_BIT};
 use zoom_ranges::ZoomRange;
 
-#[derive(Drop)]
+#[derive(Clone, Copy)]
 pub struct ZoomSet(u32);
 
 // What a call that gives a set of zooms answers.
-#[derive(Drop)]
+#[derive(Clone, Copy)]
 pub enum ZoomSetAnswer {
     Set(ZoomSet),
     Refused(Refusal),

@@ -1,4 +1,6 @@
 // Sets of zooms as the bits of a number: what they have, how many, turned round, and lists of zooms there and back.
+#![tactic(auto)]
+
 ghost use Rattle.std.specs.Prelude.{◌≡◌, false, ◌++◌, suc, ◌≤◌, ◌<◌, length, drop};
 ghost use Rattle.errors.specs.Answer.{written};
 ghost use Rattle.errors.specs.Cases.{left};

@@ -3,7 +3,7 @@ use Rattle.std.specs.Prelude.{◌≡◌, Bool, not, ◌&&◌}
 use Rattle.std.proofs.Math.Path.{refl}
 use Rattle.std.proofs.Common.{sym, ap, ◌∙◌, arith}
 use Rattle.std.proofs.Math.Bool.{true, false, and-true}
-use mathlib.Core.List.{List, [], ◌∷◌, ◌++◌, map_append, append-nil}
+use mathlib.Core.List.{List, [], ◌∷◌, ◌++◌, map-append, append-nil}
 use Prim.Native.Nat.{ℕ, zero, suc, ◌<◌}
 use Rattle.std.proofs.lemmas.Bool.{lt-leb}
 use Rattle.zoom_bits.specs.Bits.{those, last_zoom}
@@ -49,7 +49,7 @@ module _ (has : ℕ → Bool) where
             run_ended has n eb,
             none_open has (suc n) eb,
             append-nil,
-            map_append (λ (r : ZoomRange). r.min) (runs_below has n) (ended_at n (open_at has n)),
+            map-append (λ (r : ZoomRange). r.min) (runs_below has n) (ended_at n (open_at has n)),
             lowest_ended n (open_at has n),
             those_without (run_starts has) (suc n) (start_next n ∙ rw eb),
           )
@@ -73,7 +73,7 @@ module _ (has : ℕ → Bool) where
           rw (
             run_ended has n eb,
             (one_open has n ea).2,
-            map_append (λ (r : ZoomRange). r.max) (runs_below has n) (range_of (one_open has n ea).0 n ∷ []),
+            map-append (λ (r : ZoomRange). r.max) (runs_below has n) (range_of (one_open has n ea).0 n ∷ []),
             i,
             those_with (run_ends has) n (rw (ea, eb)),
           )

@@ -4,7 +4,7 @@ use Rattle.std.proofs.Common.{sym, ap, ◌∙◌, inl, inr, arith}
 use mathlib.Core.List.Memᴰ
 use mathlib.Core.List.{Memᴰ}
 use Rattle.std.proofs.Math.Decide.{dec_lt}
-use Rattle.std.proofs.lemmas.List.{length_map}
+use Rattle.std.proofs.lemmas.List.{length-map}
 use Rattle.std.proofs.Math.ListN.{get_or-map}
 use borrow.Author.Tests.{leb-true}
 use Rattle.bits.specs.Tests.{and_parts, get_d_in, in_get_d, in_map, into_map}
@@ -71,14 +71,14 @@ module _ (zset : ℕ) where
   high_at i = get_or-map (λ (r : ZoomRange). r.max) (runs zset) i none
 
   pub as_many : length (run_lows zset) ≡ length (run_highs zset)
-  as_many = length_map (runs zset) (λ (r : ZoomRange). r.min) ∙ sym (length_map (runs zset) (λ (r : ZoomRange). r.max))
+  as_many = length-map (runs zset) (λ (r : ZoomRange). r.min) ∙ sym (length-map (runs zset) (λ (r : ZoomRange). r.max))
 
   each : (i : ℕ) → i < length (run_lows zset) → MaximalRun zset (get_or (run_lows zset) i 0) (get_or (run_highs zset) i 0)
   each i h =
       rw (low_at i, high_at i)
       (test_says zset (get_or (runs zset) i none).min (get_or (runs zset) i none).max
       (runs_in (holds_zoom zset) (suc last_zoom) (get_or (runs zset) i none)
-      (get_d_in (runs zset) i none (omega (arith, length_map (runs zset) (λ (r : ZoomRange). r.min))))))
+      (get_d_in (runs zset) i none (omega (arith, length-map (runs zset) (λ (r : ZoomRange). r.min))))))
 
   highest_zoom : {low high : ℕ} → MaximalRun zset low high → high ≤ last_zoom
   unfolding holds_zoom
@@ -90,7 +90,7 @@ module _ (zset : ℕ) where
       let m = in_runs (holds_zoom zset) (suc last_zoom) low high r.ordered (omega (arith, highest_zoom r)) (says_test zset low high r) in
       let s = in_get_d (runs zset) none m in (
         s.0,
-        omega (arith, s.1, length_map (runs zset) (λ (r : ZoomRange). r.min)),
+        omega (arith, s.1, length-map (runs zset) (λ (r : ZoomRange). r.min)),
         low_at s.0 ∙ ap (λ (r : ZoomRange). r.min) s.2,
         high_at s.0 ∙ ap (λ (r : ZoomRange). r.max) s.2,
       )

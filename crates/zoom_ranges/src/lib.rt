@@ -1,4 +1,6 @@
 // Ranges of zooms, and the runs of a set as ranges.
+#![tactic(auto)]
+
 ghost use Rattle.std.specs.Prelude.{◌≡◌, suc};
 ghost use Rattle.zoom_bits.specs.Bits.{last_zoom, set_of};
 ghost use Rattle.zoom_ranges.specs.Edges.{run_starts, run_ends};
@@ -7,7 +9,7 @@ ghost use Rattle.zoom_ranges.specs.Ranges.{range_of, holds_zoom, left_two, range
 use errors::{Count, Refusal};
 use zoom_bits::LAST_ZOOM;
 
-#[derive(Drop)]
+#[derive(Clone, Copy)]
 pub struct ZoomRange {
     pub min: u8,
     pub max: u8,

@@ -1,0 +1,2 @@
+-- `Theorems` has the theorems of these functions.
+pub mod Theorems

@@ -1,0 +1,64 @@
+-- `area` meets its contract: the refusals of the line, then the area of its one form.
+use mathlib.Core.Path.{◌≡◌, sym, ap, subst, ◌∙◌}
+use mathlib.Core.List.{List}
+use Prim.Native.Nat.{ℕ, ◌≤◌}
+use lib.ListN.{length, length-replicate}
+use lib.Seq.{length-take-le}
+use Rattle.constants.specs.Limits.{max_line, form_places}
+use Rattle.errors.specs.Answer.{Answer, written}
+use Rattle.errors.specs.Laws.{positive, check_fine, check_refused}
+use Rattle.errors.specs.Memory.{written_refused}
+use Rattle.errors.specs.declared.Count.{Count}
+use Rattle.form.specs.Form.{Form, Reads}
+use Rattle.form.specs.Reading.{line_refusal}
+use Rattle.form.proofs.ReadingLemmas.{line_fine}
+use Rattle.form_area.specs.Area.{line_area}
+use Rattle.form_area.specs.Calls.{valued, CountFits}
+use Rattle.form_area.specs.Lines.{line_area_lem, line_refused}
+use Rattle.form_area.proofs.area.Goals as goal
+use Rattle.form_area.proofs.area.Goals.{After-value, In-Counted, In-Fine}
+
+refused_nothing : (c : In-Fine) → line_refusal c.args.line.now ≡ 0
+refused_nothing c = check_fine c.in-Fine.is c.check.ensures
+
+fine : (c : In-Fine) → (length c.args.line.now ≤ max_line) × ((f : Form) × Reads c.args.line.now f)
+fine c = line_fine c.args.line.now (refused_nothing c)
+
+pub value-requires : goal.value-requires
+unfolding form_places
+value-requires c = let f = fine (goal.at.value-requires c).In-Fine in record { line_len_bound = f.0; spelled = f.1; list_len = length-replicate {A = ℕ} 256 0 }
+
+count_within : (c : In-Counted) → c.in-Counted.n ≤ length c.value.new.list
+count_within c = subst (λ (r : Count). CountFits r c.value.new.list) c.in-Counted.is c.value.ensures.within
+
+lined : (c : After-value) → valued c.value.result c.value.new.list ≡ line_area c.args.line.now
+lined c =
+    let n : line_refusal c.args.line.now ≡ 0 = check_fine c.in-Fine.is c.check.ensures in
+    let f = (line_fine c.args.line.now n).1 in
+    c.value.ensures.area f.0 f.1 ∙ sym (line_area_lem c.args.line.now f.0 f.1 n)
+
+pub slice_bounds-list-end : goal.slice_bounds-list-end
+slice_bounds-list-end c = count_within (goal.at.slice_bounds-list-end c).In-Counted
+
+pub slice_bounds-written-end : goal.slice_bounds-written-end
+slice_bounds-written-end c = sym (length-take-le c.in-Counted.n c.value.new.list (count_within (goal.at.slice_bounds-written-end c).In-Counted))
+
+pub returns-in-Counted : goal.returns-in-Counted
+returns-in-Counted c = let a = c.args in
+    c.written.ensures
+    ∙ ap (λ (v : Answer (List ℕ)). written v.number v.value a.out.now)
+    (subst (λ (r : Count). valued r c.value.new.list ≡ line_area a.line.now)
+    c.in-Counted.is (lined (goal.at.returns-in-Counted c).After-value))
+
+pub returns-in-Refused-value : goal.returns-in-Refused-value
+returns-in-Refused-value c = let a = c.args in
+    written_refused c.in-Refused-value.why (line_area a.line.now).value a.out.now
+    (ap (λ (v : Answer (List ℕ)). v.number)
+    (subst (λ (r : Count). valued r c.value.new.list ≡ line_area a.line.now) c.in-Refused-value.is
+    (lined (goal.at.returns-in-Refused-value c).After-value)))
+
+pub returns-in-Refused : goal.returns-in-Refused
+returns-in-Refused c = let a = c.args in
+    let e = check_refused c.in-Refused.is c.check.ensures in
+    let p = positive c.in-Refused.why in
+    written_refused c.in-Refused.why (line_area a.line.now).value a.out.now (p.1 ∙ sym (line_refused a.line.now p.0 (sym e ∙ p.1)))

@@ -1,0 +1,32 @@
+-- `keep` meets its contract: a bad key is refused, and the entry of another goes to its place.
+use mathlib.Core.Path.{sym, ap, ◌∙◌}
+use Prim.Native.Nat.{ℕ}
+use lib.ListN.{set}
+use lib.Seq.{set_out}
+use Rattle.errors.specs.Laws.{answer_refused}
+use Rattle.form_area.specs.Entries.{key_kept}
+use Rattle.form_area.specs.Area.{key_of_run}
+use Rattle.quadkey.specs.Key.{key_refusal}
+use Rattle.tile.specs.OnMap.{no_tile_of, tile_case}
+use Rattle.form_area.proofs.keep.Goals as goal
+
+pub entry-requires : goal.entry-requires
+entry-requires c = let run = c.args.run.now in
+    (key_kept run c.in-Found.t (sym (ap tile_case c.in-Found.is) ∙ c.tile_of.ensures)).1
+
+pub returns-then-n-entries : goal.returns-then-n-entries
+returns-then-n-entries c = let run = c.args.run.now in
+    let k = key_kept run c.in-Found.t (sym (ap tile_case c.in-Found.is) ∙ c.tile_of.ensures) in (
+      k.0,
+      ap (λ (e : ℕ). set c.args.entries.now
+          c.args.n e) (c.entry.ensures ∙ k.2),
+    )
+
+pub returns-else-n-entries : goal.returns-else-n-entries
+returns-else-n-entries c = let a = c.args in
+    let k = key_kept a.run.now c.in-Found.t (sym (ap tile_case c.in-Found.is) ∙ c.tile_of.ensures) in
+    (k.0, sym (set_out a.entries.now a.n _ c.if-n-entries.false))
+
+pub returns-in-Refused : goal.returns-in-Refused
+returns-in-Refused c = let a = c.args in
+    sym (answer_refused c.in-Refused.why (key_refusal (key_of_run a.run.now)) no_tile_of _ (sym (ap tile_case c.in-Refused.is) ∙ c.tile_of.ensures))

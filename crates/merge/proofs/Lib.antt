@@ -1,0 +1,2 @@
+-- `Doors` has what the boundary does with one list.
+pub mod Doors

@@ -1,0 +1,9 @@
+-- `simplify_v1` is the work of that name.
+use mathlib.Core.Path.{◌∙◌}
+use Rattle.merge.proofs.Doors.{simplify_v1_door}
+use Rattle.merge.proofs.simplify_v1.Goals as goal
+
+pub returns : goal.returns
+returns c = let m = c.unwrap_or-m in
+    let a = c.args in
+    rw (← m.ensures) (c.counted.ensures ∙ simplify_v1_door m.result a.list.now a.out.now)

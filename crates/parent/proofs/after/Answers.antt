@@ -1,0 +1,14 @@
+-- `parent::after` meets its contract: what `check` says decides.
+use mathlib.Core.Path.{sym}
+use Rattle.errors.specs.Laws.{check_fine, check_refused, refused_answer}
+use Rattle.tile.specs.OnMap.{accepted_on_map}
+use Rattle.parent.proofs.after.Goals as goal
+
+pub above-up-requires : goal.above-up-requires
+above-up-requires c = accepted_on_map _ _ _ (check_fine c.in-Fine.is c.check.ensures)
+
+pub returns-in-Fine : goal.returns-in-Fine
+returns-in-Fine c = rw (check_fine c.in-Fine.is c.check.ensures, c.above-up.ensures)
+
+pub returns-in-Refused : goal.returns-in-Refused
+returns-in-Refused c = refused_answer c.in-Refused.why _ _ (sym (check_refused c.in-Refused.is c.check.ensures))

@@ -1,0 +1,1 @@
+-- `replay_rust::main` is safe and ends: the turns fall.

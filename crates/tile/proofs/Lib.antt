@@ -1,0 +1,2 @@
+-- `Theorems` has the theorems of tiles.
+pub mod Theorems

@@ -1,0 +1,10 @@
+-- `tile_zbox::TileZBox::contains_on_map` meets its contract: what `check` says decides.
+use mathlib.Core.Path.{sym}
+use Rattle.errors.specs.Laws.{check_fine, check_refused, refused_answer}
+use Rattle.tile_zbox.proofs.TileZBox.contains_on_map.Goals as goal
+
+pub returns-in-Fine : goal.returns-in-Fine
+returns-in-Fine c = rw ((check_fine c.in-Fine.is c.check.ensures), c.holds.ensures)
+
+pub returns-in-Refused : goal.returns-in-Refused
+returns-in-Refused c = refused_answer c.in-Refused.why _ _ (sym (check_refused c.in-Refused.is c.check.ensures))
