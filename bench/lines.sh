@@ -3,7 +3,7 @@
 set -eu
 root=$(cd "$(dirname "$0")/.." && pwd)
 cd "$root"
-rt check areas >&2
+(cd crates/areas && rt run </dev/null >&2)
 lines=$(mktemp)
 trap 'rm -f "$lines"' EXIT
 
@@ -13,7 +13,7 @@ timed() {
     best=0
     for run in 1 2 3 4 5; do
         before=$(date +%s%N)
-        target/bin/areas < "$lines" > /dev/null
+        crates/areas/out/areas < "$lines" > /dev/null
         after=$(date +%s%N)
         rate=$((1000000000000000 / (after - before)))
         if [ "$rate" -gt "$best" ]; then best=$rate; fi

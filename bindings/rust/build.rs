@@ -1,5 +1,5 @@
 //! Links the archive of the proved calls: from the folder that NORIPLIERS_LIB_DIR names, else from
-//! the repository's target/staticlib. An archive of another version than this crate's is refused.
+//! the repository's crates/noripliers/out. An archive of another version than this crate's is refused.
 use std::env;
 use std::ffi::OsString;
 use std::path::{Path, PathBuf};
@@ -22,12 +22,12 @@ fn main() {
     println!("cargo::rerun-if-env-changed=NORIPLIERS_LIB_DIR");
     let here = Path::new(env!("CARGO_MANIFEST_DIR"));
     let folder = env::var_os("NORIPLIERS_LIB_DIR")
-        .map_or_else(|| here.join("../../target/staticlib"), PathBuf::from);
+        .map_or_else(|| here.join("../../crates/noripliers/out"), PathBuf::from);
     let archive = folder.join("libnoripliers.a");
     println!("cargo::rerun-if-changed={}", archive.display());
     if !archive.is_file() {
         println!(
-            "cargo::error={} is not there: make it by `rt staticlib noripliers` in the repository, \
+            "cargo::error={} is not there: make it by `rt lib` in crates/noripliers of the repository, \
              or name the folder that has it in NORIPLIERS_LIB_DIR",
             archive.display()
         );
