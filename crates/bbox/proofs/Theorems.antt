@@ -126,12 +126,12 @@ nan_edge_meets_no_box a b =
 
 -- But a box that crosses contains one with a NaN west, since one of two tests is enough there, as in the Rust:
 -- the box from 170 to -170 contains the one from NaN to -175.
-pub nan-edge-may-be-contained :
+pub nan_edge_may_be_contained :
     let a = box (degrees (pos 170)) (degrees (pos 0)) (degrees (negsuc 169)) (degrees (pos 9)) in
     let b = box nan (degrees (pos 1)) (degrees (negsuc 174)) (degrees (pos 8)) in
     T (contains_box a b)
 unfolding le lt of_int
-nan-edge-may-be-contained = tt
+nan_edge_may_be_contained = tt
 
 -- ---- Boxes and their points
 
@@ -165,13 +165,13 @@ contains_its_points a b p o h k =
 
 -- Where the other one alone crosses, the Rust looks at the edges only:
 -- the box from -10 to 10 contains the one from 5 round to -5, and not its point at 90.
-pub contains-a-box-that-goes-round :
+pub contains_a_box_that_goes_round :
     let a = box (degrees (negsuc 9)) (degrees (pos 0)) (degrees (pos 10)) (degrees (pos 9)) in
     let b = box (degrees (pos 5)) (degrees (pos 0)) (degrees (negsuc 4)) (degrees (pos 9)) in
     let p = point (degrees (pos 90)) (degrees (pos 1)) in
     T (contains_box a b && contains_point b p && not (contains_point a p))
 unfolding le lt of_int
-contains-a-box-that-goes-round = tt
+contains_a_box_that_goes_round = tt
 
 -- `intersects` is symmetric.
 pub meets_both_ways : (a b : BBox) → meets a b ≡ meets b a
