@@ -34,7 +34,7 @@ fn uncovered_codes(locations: &mut [u64], out: &mut [u64], m: u8) -> usize
     ensures { Uncovers m locations.old out.new result }
 {
     sort::sort_into(locations, out);
-    sort::copy(out, locations);
+    locations.copy_from_slice(out);
     let tops = settle::settle(locations, NO_ZOOM);
     uncovered(out, &locations[..tops], m)
 }
@@ -47,16 +47,13 @@ fn uncovered(locations: &mut [u64], tops: &[u64], m: u8) -> usize
 {
     let mut count = 0;
     let mut top = 0;
-    let mut i = 0;
-    'tiles: while i < locations.len() {
+    // It writes into the slice that it goes over, so the index is needed.
+    'tiles: for i in 0..locations.len() {
         let k = locations[i];
-        i += 1;
         top = top_of(tops, top, k);
         let highest = settle::morton(tops[top]);
         let morton = settle::morton(k);
-        let mut steps = steps_to_test(k, morton, highest);
-        while steps > m {
-            steps -= 1;
+        for steps in (m..steps_to_test(k, morton, highest)).rev() {
             if ancestor(morton, steps) == highest {
                 continue 'tiles;
             }
@@ -84,6 +81,7 @@ fn top_of(tops: &[u64], from: usize, k: u64) -> usize
     ensures { FirstTop tops.now from k result }
 {
     let mut top = from;
+    // One of them is known to end behind k, so the walk needs no last place to count to. It is mostly near: a search by halves reads more.
     while end(tops[top]) <= k {
         top += 1;
     }

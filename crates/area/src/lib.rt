@@ -6,38 +6,35 @@ ghost use Rattle.area.specs.Area.{union_of, common_of, difference_of};
 ghost use Rattle.errors.specs.Cases.{bool_case, left};
 ghost use Rattle.settled.specs.Answers.{is_settled_of};
 
-use errors::{BoolAnswer, Count};
-use work::{FIRST_VALUE, Overlay, Work};
+use errors::Refusal;
+use work::{Overlay, Work};
 
 // The ground of either list.
-pub fn union(a: &[u64], b: &[u64], out: &mut [u64]) -> Count
+pub fn union(a: &[u64], b: &[u64], out: &mut [u64]) -> Result<usize, Refusal>
     ensures { left result out.new ≡ union_of a.now b.now out.old }
 {
     boundary::counted(a, b, Work::Overlaid(Overlay::Union), 0, out)
 }
 
 // The ground of both lists.
-pub fn common_part(a: &[u64], b: &[u64], out: &mut [u64]) -> Count
+pub fn common_part(a: &[u64], b: &[u64], out: &mut [u64]) -> Result<usize, Refusal>
     ensures { left result out.new ≡ common_of a.now b.now out.old }
 {
     boundary::counted(a, b, Work::Overlaid(Overlay::Common), 0, out)
 }
 
 // The ground of the first list that is not the second's.
-pub fn difference(a: &[u64], b: &[u64], out: &mut [u64]) -> Count
+pub fn difference(a: &[u64], b: &[u64], out: &mut [u64]) -> Result<usize, Refusal>
     ensures { left result out.new ≡ difference_of a.now b.now out.old }
 {
     boundary::counted(a, b, Work::Overlaid(Overlay::Difference), 0, out)
 }
 
 // Whether a list is settled: strictly in order, no tile beside its own ancestor, no four siblings together.
-pub fn is_settled(list: &[u64]) -> BoolAnswer
+pub fn is_settled(list: &[u64]) -> Result<bool, Refusal>
     ensures { bool_case result ≡ is_settled_of list.now }
 {
     let mut none = [0u64; 1];
-    let r = boundary::run(list, &list[..0], Work::Tested, 0, &mut none);
-    if r < FIRST_VALUE {
-        return BoolAnswer::Refused(boundary::refusal(r));
-    }
-    BoolAnswer::Told(r > FIRST_VALUE)
+    let done = boundary::run(list, &list[..0], Work::Tested, 0, &mut none)?;
+    Ok(done.yes)
 }

@@ -1,19 +1,18 @@
 -- What the program keeps from chunk to chunk: the line so far, whatever was written meanwhile.
-use Rattle.std.specs.Prelude.{◌≡◌, List, ℕ, suc, ◌≤◌, length, take, drop}
+use Rattle.std.specs.Prelude.{◌≡◌, List, ℕ, suc, ◌≤◌, length, take, drop, Result, Ok, Err}
 use Rattle.std.proofs.Common.{sym, arith, length-take, drop_of_length-le, take_all}
 use Rattle.constants.specs.Limits.{max_line}
 use Rattle.form_stream.specs.Stream.{so_far}
-use Rattle.areas.specs.declared.Line.{Line}
-use Rattle.areas.specs.declared.Line.TheVariants.{So, Unwritten}
+use Rattle.form_stream.specs.declared.Feeding.{Feeding}
 
 -- the first bytes of the line so far behind the bytes of a chunk, one more than a line may have
 abbrev pub line_kept : List ℕ → List ℕ → List ℕ
 line_kept line chunk = take (suc max_line) (so_far line chunk)
 
 -- where all that was to be printed could be written
-abbrev pub KeepsLine : List ℕ → List ℕ → List ℕ → Line → Type 0
-KeepsLine chunk line after (So f) = take f.len after ≡ line_kept line chunk
-KeepsLine chunk line after Unwritten = Unit {0}
+abbrev pub KeepsLine : {E : Type 0} → List ℕ → List ℕ → List ℕ → Result Feeding E → Type 0
+KeepsLine chunk line after (Ok f) = take f.len after ≡ line_kept line chunk
+KeepsLine chunk line after (Err _) = Unit {0}
 
 -- behind a chunk that is used up
 pub nothing_more : (chunk : List ℕ) (at len : ℕ) (line : List ℕ) → length line ≡ suc max_line → length chunk ≤ at

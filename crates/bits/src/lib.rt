@@ -10,7 +10,7 @@ pub fn pow2(k: u8) -> u32
     if k < 32 { 1u32 << k } else { 0 }
 }
 
-// 2^k in 64 bits, 0 where it does not fit.
+// 2^k in 64 bits, 0 where it does not fit. Two functions and no trait: a trait would have both bodies again, and its own clauses besides.
 pub fn wide_pow2(k: u8) -> u64
     ensures { result ≡ 2 ^ k % 2 ^ 64 }
 {

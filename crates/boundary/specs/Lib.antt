@@ -1,2 +1,1 @@
 pub mod Rungs
-pub mod Answers

@@ -6,9 +6,6 @@ use Rattle.constants.specs.Limits.{max_entries}
 use Rattle.boundary.specs.declared.Rung.{Rung}
 use Rattle.boundary.specs.declared.Rung.TheVariants.{Short, Medium, Long, Longer, Longest}
 
-abbrev pub tiny_rung : ℕ
-tiny_rung = 16
-
 abbrev pub short_rung : ℕ
 short_rung = 128
 

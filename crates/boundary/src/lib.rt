@@ -2,28 +2,39 @@
 // their tiles.
 #![tactic(auto)]
 
-ghost use Rattle.std.specs.Prelude.{◌≡◌, suc, ◌+◌, ◌*◌, ◌≤◌};
-ghost use Rattle.boundary.specs.Rungs.{tiny_rung, short_rung, medium_rung, long_rung, longer_rung};
+ghost use Rattle.std.specs.Prelude.{◌≡◌, ◌+◌, ◌*◌, ◌^◌, ◌<◌, ◌≤◌};
 ghost use Rattle.constants.specs.Limits.{max_entries};
-ghost use Rattle.errors.specs.Answer.{number_of};
 ghost use Rattle.errors.specs.Cases.{left};
 ghost use Rattle.work.specs.Steps.{InScratch};
-ghost use Rattle.work.specs.Work.{work_of, told_left, OfLists};
+ghost use Rattle.work.specs.Work.{outcome_of, work_of, told_left};
 
 use constants::MAX_ENTRIES;
-use errors::{Count, Refusal};
-use work::{FIRST_VALUE, Work};
+use errors::Refusal;
+use work::{Outcome, Work};
 
-// The scratch has to be cleared, so it is not much longer than the lists. A rung of N takes two lists of N entries, or one of 2 * N.
+// The scratch has to be cleared, so it is not much longer than the lists. A rung of N takes two lists of N entries, or one of 2 * N: it
+// has keys for both, and N spare places to sort them by.
 const TINY: usize = 16;
+
+const TINY_KEYS: usize = 2 * TINY;
 
 const SHORT: usize = 128;
 
+const SHORT_KEYS: usize = 2 * SHORT;
+
 const MEDIUM: usize = 1024;
+
+const MEDIUM_KEYS: usize = 2 * MEDIUM;
 
 const LONG: usize = 4096;
 
+const LONG_KEYS: usize = 2 * LONG;
+
 const LONGER: usize = 32768;
+
+const LONGER_KEYS: usize = 2 * LONGER;
+
+const LONGEST_KEYS: usize = 2 * MAX_ENTRIES;
 
 #[derive(Clone, Copy)]
 enum Rung {
@@ -35,49 +46,29 @@ enum Rung {
 }
 
 // A work whose value is the count of the answer's entries.
-pub fn counted(a: &[u64], b: &[u64], work: Work, m: u8, out: &mut [u64]) -> Count
+pub fn counted(a: &[u64], b: &[u64], work: Work, m: u8, out: &mut [u64]) -> Result<usize, Refusal>
     ensures { left result out.new ≡ work_of work m a.now b.now out.old }
 {
-    let r = run(a, b, work, m, out);
-    if r < FIRST_VALUE {
-        return Count::Refused(refusal(r));
-    }
-    Count::Counted(r - FIRST_VALUE)
+    Ok(run(a, b, work, m, out)?.count)
 }
 
-// The answer in one number.
-pub fn run(a: &[u64], b: &[u64], work: Work, m: u8, out: &mut [u64]) -> usize
-    ensures { told_left result out.new ≡ work_of work m a.now b.now out.old }
+// What the work says, and the answer's entries at the front of `out`.
+// The work is an enum and no closure: the promises `outcome_of` and `work_of` and their theorems speak of its cases.
+pub fn run(a: &[u64], b: &[u64], work: Work, m: u8, out: &mut [u64]) -> Result<Outcome, Refusal>
+    ensures { told_left result out.new ≡ outcome_of work m a.now b.now out.old }
 {
     if a.len() > MAX_ENTRIES {
-        return work::refused(Refusal::TooMany);
+        return Err(Refusal::TooMany);
     }
     if b.len() > MAX_ENTRIES {
-        return work::refused(Refusal::TooMany);
+        return Err(Refusal::TooMany);
     }
     let need = need(work, a.len(), b.len());
     if need <= TINY {
-        return tiny_scratch(a, b, work, m, out);
+        // So few entries are sorted in place, and there is no spare memory to be cleared.
+        return in_scratch::<TINY_KEYS, 0>(a, b, work, m, out);
     }
     climb(a, b, work, m, out, need, Rung::Short)
-}
-
-// The refusal of an answer.
-pub fn refusal(r: usize) -> Refusal
-    requires { OfLists (suc r) }
-    ensures { number_of result ≡ suc r }
-{
-    let number = r + 1;
-    if number == 6 {
-        return Refusal::TooMany;
-    }
-    if number == 7 {
-        return Refusal::NoTile;
-    }
-    if number == 11 {
-        return Refusal::NotSettled;
-    }
-    Refusal::Memory
 }
 
 // The rung that lists of n and k entries need at least. Both lists of an overlay are sorted, each by way of the spare part.
@@ -86,105 +77,68 @@ fn need(work: Work, n: usize, k: usize) -> usize
     ensures { (n + k ≤ 2 * result) × (result ≤ max_entries) }
 {
     match work {
-        Work::Simplified(_) => (n + k + 1) / 2,
-        Work::Tested => longer_of(n, k),
-        Work::Overlaid(_) => longer_of(n, k),
+        Work::Simplified(_) => (n + k).div_ceil(2),
+        Work::Tested | Work::Overlaid(_) => n.max(k),
     }
-}
-
-fn longer_of(n: usize, k: usize) -> usize
-    requires { (n ≤ max_entries) × (k ≤ max_entries) }
-    ensures { (n + k ≤ 2 * result) × (result ≤ max_entries) }
-{
-    if n < k { k } else { n }
 }
 
 // From rung to rung until the scratch is long enough. Each scratch stands in a function of its own. The compiler joins such a function to
 // its caller, but not to a caller that calls itself: so a shorter list does not pay for the stack of a longer one.
-fn climb(a: &[u64], b: &[u64], work: Work, m: u8, out: &mut [u64], need: usize, rung: Rung) -> usize
+fn climb(
+    a: &[u64],
+    b: &[u64],
+    work: Work,
+    m: u8,
+    out: &mut [u64],
+    need: usize,
+    rung: Rung,
+) -> Result<Outcome, Refusal>
     requires { InScratch a.now b.now (2 * need) }
-    ensures { told_left result out.new ≡ work_of work m a.now b.now out.old }
+    ensures { told_left result out.new ≡ outcome_of work m a.now b.now out.old }
 {
     match rung {
         Rung::Short => {
             if need <= SHORT {
-                return short_scratch(a, b, work, m, out);
+                return in_scratch::<SHORT_KEYS, SHORT>(a, b, work, m, out);
             }
             climb(a, b, work, m, out, need, Rung::Medium)
         }
         Rung::Medium => {
             if need <= MEDIUM {
-                return medium_scratch(a, b, work, m, out);
+                return in_scratch::<MEDIUM_KEYS, MEDIUM>(a, b, work, m, out);
             }
             climb(a, b, work, m, out, need, Rung::Long)
         }
         Rung::Long => {
             if need <= LONG {
-                return long_scratch(a, b, work, m, out);
+                return in_scratch::<LONG_KEYS, LONG>(a, b, work, m, out);
             }
             climb(a, b, work, m, out, need, Rung::Longer)
         }
         Rung::Longer => {
             if need <= LONGER {
-                return longer_scratch(a, b, work, m, out);
+                return in_scratch::<LONGER_KEYS, LONGER>(a, b, work, m, out);
             }
             climb(a, b, work, m, out, need, Rung::Longest)
         }
-        Rung::Longest => longest_scratch(a, b, work, m, out),
+        Rung::Longest => in_scratch::<LONGEST_KEYS, MAX_ENTRIES>(a, b, work, m, out),
     }
 }
 
-// So few entries are sorted in place, and there is no spare memory to be cleared.
-fn tiny_scratch(a: &[u64], b: &[u64], work: Work, m: u8, out: &mut [u64]) -> usize
-    requires { InScratch a.now b.now (2 * tiny_rung) }
-    ensures { told_left result out.new ≡ work_of work m a.now b.now out.old }
+// The work with keys for both lists, and with spare places.
+fn in_scratch<const KEYS: usize, const SPARE: usize>(
+    a: &[u64],
+    b: &[u64],
+    work: Work,
+    m: u8,
+    out: &mut [u64],
+) -> Result<Outcome, Refusal>
+    requires fits { InScratch a.now b.now KEYS }
+    requires small { (KEYS < 2 ^ 32) × (SPARE < 2 ^ 32) }
+    ensures { told_left result out.new ≡ outcome_of work m a.now b.now out.old }
 {
-    let mut keys = [0u64; 2 * TINY];
-    let mut spare = [0u64; 0];
-    work::work_in(a, b, work, m, out, &mut keys, &mut spare)
-}
-
-fn short_scratch(a: &[u64], b: &[u64], work: Work, m: u8, out: &mut [u64]) -> usize
-    requires { InScratch a.now b.now (2 * short_rung) }
-    ensures { told_left result out.new ≡ work_of work m a.now b.now out.old }
-{
-    let mut keys = [0u64; 2 * SHORT];
-    let mut spare = [0u64; SHORT];
-    work::work_in(a, b, work, m, out, &mut keys, &mut spare)
-}
-
-fn medium_scratch(a: &[u64], b: &[u64], work: Work, m: u8, out: &mut [u64]) -> usize
-    requires { InScratch a.now b.now (2 * medium_rung) }
-    ensures { told_left result out.new ≡ work_of work m a.now b.now out.old }
-{
-    let mut keys = [0u64; 2 * MEDIUM];
-    let mut spare = [0u64; MEDIUM];
-    work::work_in(a, b, work, m, out, &mut keys, &mut spare)
-}
-
-fn long_scratch(a: &[u64], b: &[u64], work: Work, m: u8, out: &mut [u64]) -> usize
-    requires { InScratch a.now b.now (2 * long_rung) }
-    ensures { told_left result out.new ≡ work_of work m a.now b.now out.old }
-{
-    let mut keys = [0u64; 2 * LONG];
-    let mut spare = [0u64; LONG];
-    work::work_in(a, b, work, m, out, &mut keys, &mut spare)
-}
-
-fn longer_scratch(a: &[u64], b: &[u64], work: Work, m: u8, out: &mut [u64]) -> usize
-    requires { InScratch a.now b.now (2 * longer_rung) }
-    ensures { told_left result out.new ≡ work_of work m a.now b.now out.old }
-{
-    let mut keys = [0u64; 2 * LONGER];
-    let mut spare = [0u64; LONGER];
-    work::work_in(a, b, work, m, out, &mut keys, &mut spare)
-}
-
-fn longest_scratch(a: &[u64], b: &[u64], work: Work, m: u8, out: &mut [u64]) -> usize
-    requires { InScratch a.now b.now (2 * max_entries) }
-    ensures { told_left result out.new ≡ work_of work m a.now b.now out.old }
-{
-    let mut keys = [0u64; 2 * MAX_ENTRIES];
-    let mut spare = [0u64; MAX_ENTRIES];
+    // Fixed memory, and so the rungs: nothing is taken from the heap, which is a rule of the project.
+    let mut keys = [0u64; KEYS];
+    let mut spare = [0u64; SPARE];
     work::work_in(a, b, work, m, out, &mut keys, &mut spare)
 }

@@ -11,7 +11,7 @@ use bbox::{BBox, LngLat};
 pub fn crosses_antimeridian(west: f64, south: f64, east: f64, north: f64, told: &mut u8) -> u8
     ensures { answered result told.new ≡ as_byte (never (crosses (box west south east north))) }
 {
-    let area = bbox(west, south, east, north);
+    let area = BBox::new(west, south, east, north);
     c_give::yes_or_no(area.crosses_antimeridian(), told)
 }
 
@@ -26,7 +26,7 @@ pub fn contains_lnglat(
 ) -> u8
     ensures { answered result told.new ≡ as_byte (never (contains_point (box west south east north) (point lng lat))) }
 {
-    let area = bbox(west, south, east, north);
+    let area = BBox::new(west, south, east, north);
     let place = LngLat { lng, lat };
     c_give::yes_or_no(area.contains_lnglat(place), told)
 }
@@ -45,8 +45,8 @@ pub fn contains_bbox(
     ensures { answered result told.new
         ≡ as_byte (never (contains_box (box west south east north) (box western southern eastern northern))) }
 {
-    let area = bbox(west, south, east, north);
-    let other = bbox(western, southern, eastern, northern);
+    let area = BBox::new(west, south, east, north);
+    let other = BBox::new(western, southern, eastern, northern);
     c_give::yes_or_no(area.contains_bbox(other), told)
 }
 
@@ -64,8 +64,8 @@ pub fn is_within(
     ensures { answered result told.new
         ≡ as_byte (never (is_within_of (box west south east north) (box western southern eastern northern))) }
 {
-    let area = bbox(west, south, east, north);
-    let other = bbox(western, southern, eastern, northern);
+    let area = BBox::new(west, south, east, north);
+    let other = BBox::new(western, southern, eastern, northern);
     c_give::yes_or_no(area.is_within(other), told)
 }
 
@@ -83,8 +83,8 @@ pub fn intersects(
     ensures { answered result told.new
         ≡ as_byte (never (meets (box west south east north) (box western southern eastern northern))) }
 {
-    let area = bbox(west, south, east, north);
-    let other = bbox(western, southern, eastern, northern);
+    let area = BBox::new(west, south, east, north);
+    let other = BBox::new(western, southern, eastern, northern);
     c_give::yes_or_no(area.intersects(other), told)
 }
 
@@ -107,7 +107,7 @@ pub fn bboxes(
         (box w2.new s2.new e2.new n2.new) count.new)
         ≡ never (held (parts (box west south east north))) }
 {
-    let area = bbox(west, south, east, north);
+    let area = BBox::new(west, south, east, north);
     let found = area.bboxes();
     let first = found.first;
     let second = found.second;
@@ -121,16 +121,4 @@ pub fn bboxes(
     *e2 = second.east;
     *n2 = second.north;
     0
-}
-
-// The box that the numbers of a call stand for.
-fn bbox(west: f64, south: f64, east: f64, north: f64) -> BBox
-    ensures { result ≡ box west south east north }
-{
-    BBox {
-        west,
-        south,
-        east,
-        north,
-    }
 }

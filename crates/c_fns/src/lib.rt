@@ -6,7 +6,7 @@ ghost use Rattle.c_give.specs.Exported.{answered, as_byte, answered_in, never};
 ghost use Rattle.c_fns.specs.Ancestor.{ancestor_at};
 ghost use Rattle.c_fns.specs.Limits.{limits_at};
 ghost use Rattle.children.specs.Children.{children_of, clockwise, z_order};
-ghost use Rattle.fns.specs.Fns.{bbox2zoom_of, flipy_of, is_tile, min_max_case, min_max_of};
+ghost use Rattle.fns.specs.Fns.{bbox2zoom_of, flipy_of, is_tile, min_max_of};
 ghost use Rattle.fns.specs.Parent.{parent_given};
 ghost use Rattle.neighbors.specs.Neighbors.{neighbors_written};
 ghost use Rattle.neighbors.specs.declared.Seam.TheVariants.{Cut, Wrapped};
@@ -14,30 +14,15 @@ ghost use Rattle.siblings.specs.Siblings.{siblings_written};
 ghost use Rattle.tile.specs.OnMap.{tile_at};
 
 use constants::MAX_DIGITS;
-use fns::LimitsAnswer;
-use tile::OptionU8;
+use fns::Limits;
 
 pub fn minmax(zoom: u8, min: &mut u32, max: &mut u32) -> u8
     ensures { answered result (limits_at min.new max.new) ≡ min_max_of zoom }
 {
-    limits(fns::minmax(zoom), min, max)
-}
-
-fn limits(answer: LimitsAnswer, min: &mut u32, max: &mut u32) -> u8
-    ensures { answered result (limits_at min.new max.new) ≡ min_max_case answer }
-{
-    match answer {
-        LimitsAnswer::Found(found) => {
-            *min = found.min;
-            *max = found.max;
-            0
-        }
-        LimitsAnswer::Refused(why) => {
-            *min = 0;
-            *max = 0;
-            errors::number(why)
-        }
-    }
+    let (number, limits) = c_give::apart(fns::minmax(zoom), Limits { min: 0, max: 0 });
+    *min = limits.min;
+    *max = limits.max;
+    number
 }
 
 pub fn valid(x: u32, y: u32, z: u8, told: &mut u8) -> u8
@@ -49,7 +34,7 @@ pub fn valid(x: u32, y: u32, z: u8, told: &mut u8) -> u8
 pub fn flipy(y: u32, z: u8, row: &mut u32) -> u8
     ensures { answered result row.new ≡ flipy_of y z }
 {
-    c_give::u32_number(fns::flipy(y, z), row)
+    c_give::value(fns::flipy(y, z), 0, row)
 }
 
 // The places are lent on: what is handed back by value would be copied here once more.
@@ -83,14 +68,14 @@ pub fn parent(
 pub fn children(x: u32, y: u32, z: u8, zoom: u8, out: &mut [u64], count: &mut u64) -> u8
     ensures { answered_in result count.new out.new ≡ children_of clockwise x y z zoom out.old }
 {
-    let answer = children::children(x, y, z, OptionU8::Some(zoom), out);
+    let answer = children::children(x, y, z, Some(zoom), out);
     c_give::count(answer, count)
 }
 
 pub fn children_zorder(x: u32, y: u32, z: u8, zoom: u8, out: &mut [u64], count: &mut u64) -> u8
     ensures { answered_in result count.new out.new ≡ children_of z_order x y z zoom out.old }
 {
-    let answer = children::children_zorder(x, y, z, OptionU8::Some(zoom), out);
+    let answer = children::children_zorder(x, y, z, Some(zoom), out);
     c_give::count(answer, count)
 }
 

@@ -2,68 +2,46 @@
 #![tactic(auto)]
 
 ghost use Rattle.std.specs.Prelude.{◌≡◌};
-ghost use Rattle.errors.specs.Cases.{bool_case, count_case, u32_case, u64_case};
+ghost use Rattle.errors.specs.Cases.{bool_case, case_of, number_case};
 ghost use Rattle.c_give.specs.Exported.{answered, as_byte, never};
 ghost use Rattle.tile.specs.OnMap.{tile_at, tile_case};
 
-use errors::{BoolAnswer, Count, U32Answer, U64Answer};
-use tile::TileAnswer;
+use errors::Refusal;
+use tile::Tile;
 
-pub fn count(answer: Count, count: &mut u64) -> u8
-    ensures { answered result count.new ≡ count_case answer }
+// The number of an answer, 0 where nothing is refused, and its value: where it is refused, `none`, the zero of its type.
+pub fn apart<T: Copy>(answer: Result<T, Refusal>, none: T) -> (u8, T)
+    ensures { answered result.0 result.1 ≡ case_of none answer }
 {
     match answer {
-        Count::Counted(n) => {
-            *count = n as u64;
-            0
-        }
-        Count::Refused(why) => {
-            *count = 0;
-            errors::number(why)
-        }
+        Ok(value) => (0, value),
+        Err(why) => (errors::number(why), none),
     }
 }
 
-pub fn u32_number(answer: U32Answer, value: &mut u32) -> u8
-    ensures { answered result value.new ≡ u32_case answer }
+// The same with the value behind a pointer.
+pub fn value<T: Copy>(answer: Result<T, Refusal>, none: T, value: &mut T) -> u8
+    ensures { answered result value.new ≡ case_of none answer }
 {
-    match answer {
-        U32Answer::Number(n) => {
-            *value = n;
-            0
-        }
-        U32Answer::Refused(why) => {
-            *value = 0;
-            errors::number(why)
-        }
-    }
+    let (number, given) = apart(answer, none);
+    *value = given;
+    number
 }
 
-pub fn u64_number(answer: U64Answer, value: &mut u64) -> u8
-    ensures { answered result value.new ≡ u64_case answer }
+pub fn count(answer: Result<usize, Refusal>, count: &mut u64) -> u8
+    ensures { answered result count.new ≡ number_case answer }
 {
-    match answer {
-        U64Answer::Number(n) => {
-            *value = n;
-            0
-        }
-        U64Answer::Refused(why) => {
-            *value = 0;
-            errors::number(why)
-        }
-    }
+    let (number, n) = apart(answer, 0);
+    *count = n as u64;
+    number
 }
 
-pub fn told(answer: BoolAnswer, told: &mut u8) -> u8
+pub fn told(answer: Result<bool, Refusal>, told: &mut u8) -> u8
     ensures { answered result told.new ≡ as_byte (bool_case answer) }
 {
-    match answer {
-        BoolAnswer::Told(yes) => yes_or_no(yes, told),
-        BoolAnswer::Refused(why) => {
-            *told = 0;
-            errors::number(why)
-        }
-    }
+    let (number, yes) = apart(answer, false);
+    *told = yes as u8;
+    number
 }
 
 // What is never refused.
@@ -74,21 +52,12 @@ pub fn yes_or_no(yes: bool, told: &mut u8) -> u8
     0
 }
 
-pub fn tile(answer: TileAnswer, x: &mut u32, y: &mut u32, z: &mut u8) -> u8
+pub fn tile(answer: Result<Tile, Refusal>, x: &mut u32, y: &mut u32, z: &mut u8) -> u8
     ensures { answered result (tile_at x.new y.new z.new) ≡ tile_case answer }
 {
-    match answer {
-        TileAnswer::Found(t) => {
-            *x = t.x;
-            *y = t.y;
-            *z = t.z;
-            0
-        }
-        TileAnswer::Refused(why) => {
-            *x = 0;
-            *y = 0;
-            *z = 0;
-            errors::number(why)
-        }
-    }
+    let (number, t) = apart(answer, Tile { x: 0, y: 0, z: 0 });
+    *x = t.x;
+    *y = t.y;
+    *z = t.z;
+    number
 }

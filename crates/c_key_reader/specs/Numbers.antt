@@ -6,8 +6,6 @@ use Rattle.errors.specs.Answer.{Answer, answer, number_of, ◌when◌, ◌else�
 use Rattle.errors.specs.Laws.{positive}
 use Rattle.errors.specs.declared.Refusal.{Refusal}
 use Rattle.key_reader.specs.Reader.{fed_of, feed_case, is_reader, left_by, reader_at, told_of}
-use Rattle.key_reader.specs.declared.FeedAnswer.{FeedAnswer}
-use Rattle.key_reader.specs.declared.FeedAnswer.TheVariants.{Fed, Refused}
 use Rattle.key_reader.specs.declared.KeyReader.{KeyReader}
 use Rattle.quadkey.specs.Key.{key_refusal, tile_of}
 use Rattle.tile.specs.OnMap.{no_tile_of}
@@ -34,15 +32,6 @@ fed_numbers n b = answer (16 when ltb 1 n.bad else (fed_of (reader_in n) b).numb
 
 abbrev pub told_numbers : Numbers → Answer Tile
 told_numbers n = answer (16 when ltb 1 n.bad else (told_of (reader_in n)).number) no_tile_of (told_of (reader_in n)).value
-
--- what `feed` answers, in numbers
-pub fed_numbers_lem : (n : Numbers) (b : ℕ) {a : FeedAnswer} {r : KeyReader} → n.bad ≤ 1 → a ≡ Fed r → feed_case a ≡ fed_of (reader_in n) b
-    → answered 0 (reader_numbers r) ≡ fed_numbers n b
-fed_numbers_lem n b h f e = rw (le-ltb _ _ h, ← e, f)
-
-pub refused_numbers : (n : Numbers) (b : ℕ) {a : FeedAnswer} {why : Refusal} {r : KeyReader} → n.bad ≤ 1 → a ≡ Refused why r
-    → feed_case a ≡ fed_of (reader_in n) b → answered (number_of why) n ≡ fed_numbers n b
-refused_numbers n b {why = why} h f e = rw (le-ltb _ _ h, ← e, f, (positive why).1)
 
 -- what `tile` answers, in numbers
 pub told_numbers_lem : (n : Numbers) → n.bad ≤ 1 → told_of (reader_in n) ≡ told_numbers n

@@ -7,8 +7,7 @@ ghost use Rattle.c_key_reader.specs.Numbers.{fed_numbers, numbers_at, told_numbe
 ghost use Rattle.tile.specs.OnMap.{tile_at};
 
 use errors::Refusal;
-use key_reader::{FeedAnswer, KeyReader};
-use tile::TileAnswer;
+use key_reader::KeyReader;
 
 pub fn feed(byte: u8, x: &mut u32, y: &mut u32, count: &mut u8, bad: &mut u8) -> u8
     ensures { answered result (numbers_at x.new y.new count.new bad.new)
@@ -17,22 +16,18 @@ pub fn feed(byte: u8, x: &mut u32, y: &mut u32, count: &mut u8, bad: &mut u8) ->
     if *bad > 1 {
         return errors::number(Refusal::NoState);
     }
-    let reader = KeyReader {
+    let mut reader = KeyReader {
         x: *x,
         y: *y,
         count: *count,
         bad: *bad == 1,
     };
-    match reader.feed(byte) {
-        FeedAnswer::Fed(next) => {
-            *x = next.x;
-            *y = next.y;
-            *count = next.count;
-            *bad = next.bad as u8;
-            0
-        }
-        FeedAnswer::Refused(why, _) => errors::number(why),
-    }
+    let fed = reader.feed(byte);
+    *x = reader.x;
+    *y = reader.y;
+    *count = reader.count;
+    *bad = reader.bad as u8;
+    errors::check_number(fed)
 }
 
 pub fn tile(x: u32, y: u32, count: u8, bad: u8, tx: &mut u32, ty: &mut u32, tz: &mut u8) -> u8
@@ -40,7 +35,7 @@ pub fn tile(x: u32, y: u32, count: u8, bad: u8, tx: &mut u32, ty: &mut u32, tz: 
         ≡ told_numbers (numbers_at x y count bad) }
 {
     if bad > 1 {
-        return c_give::tile(TileAnswer::Refused(Refusal::NoState), tx, ty, tz);
+        return c_give::tile(Err(Refusal::NoState), tx, ty, tz);
     }
     let reader = KeyReader {
         x,

@@ -8,38 +8,34 @@ ghost use Rattle.c_merge.specs.Merged.{given_merge, in_numbers};
 ghost use Rattle.merge.specs.Merge.{merge_of, simplify_of, simplify_v1_of};
 ghost use Rattle.settled.specs.Answers.{is_settled_of};
 
-use merge::MergeAnswer;
-use tile::OptionU8;
+use merge::Merged;
 
 pub fn merge(list: &[u64], minzoom: u8, out: &mut [u64], count: &mut u64, changed: &mut u8) -> u8
     ensures { given_merge result count.new changed.new out.new
         ≡ in_numbers (merge_of list.now minzoom out.old) }
 {
-    match merge::merge(list, OptionU8::Some(minzoom), out) {
-        MergeAnswer::Found(merged) => {
-            *count = merged.count as u64;
-            *changed = merged.changed as u8;
-            0
-        }
-        MergeAnswer::Refused(why) => {
-            *count = 0;
-            *changed = 0;
-            errors::number(why)
-        }
-    }
+    let none = Merged {
+        count: 0,
+        changed: false,
+    };
+    let answer = merge::merge(list, Some(minzoom), out);
+    let (number, merged) = c_give::apart(answer, none);
+    *count = merged.count as u64;
+    *changed = merged.changed as u8;
+    number
 }
 
 pub fn simplify_v1(list: &[u64], minzoom: u8, out: &mut [u64], count: &mut u64) -> u8
     ensures { answered_in result count.new out.new ≡ simplify_v1_of list.now minzoom out.old }
 {
-    let answer = merge::simplify_v1(list, OptionU8::Some(minzoom), out);
+    let answer = merge::simplify_v1(list, Some(minzoom), out);
     c_give::count(answer, count)
 }
 
 pub fn simplify(list: &[u64], minzoom: u8, out: &mut [u64], count: &mut u64) -> u8
     ensures { answered_in result count.new out.new ≡ simplify_of list.now minzoom out.old }
 {
-    let answer = merge::simplify(list, OptionU8::Some(minzoom), out);
+    let answer = merge::simplify(list, Some(minzoom), out);
     c_give::count(answer, count)
 }
 

@@ -7,9 +7,12 @@ ghost use Rattle.c_parent.specs.Cursor.{held_at, held_of, holding, next_at, next
 ghost use Rattle.parent.specs.Parents.{iter_of, parents_next_of};
 ghost use Rattle.sibling_relationship.specs.Relation.{relation_at};
 
-use parent::{NextAnswer, OptionTile, Parents, ParentsAnswer};
+use parent::Parents;
 use sibling_relationship::SiblingRelationship;
-use tile::Tile;
+use tile::{Next, Tile};
+
+// A cursor at its end.
+const AT_END: Parents = Parents { current: None };
 
 pub fn iter_parents(
     x: u32,
@@ -23,17 +26,9 @@ pub fn iter_parents(
     ensures { answered result (held_at count.new tx.new ty.new tz.new)
         ≡ parents_numbers (iter_of x y z) }
 {
-    match parent::iter_parents(x, y, z) {
-        ParentsAnswer::Found(cursor) => {
-            let current = cursor.current;
-            hold(current, count, tx, ty, tz);
-            0
-        }
-        ParentsAnswer::Refused(why) => {
-            hold(OptionTile::None, count, tx, ty, tz);
-            errors::number(why)
-        }
-    }
+    let (number, cursor) = c_give::apart(parent::iter_parents(x, y, z), AT_END);
+    hold(cursor.current, count, tx, ty, tz);
+    number
 }
 
 pub fn next(
@@ -55,50 +50,33 @@ pub fn next(
         ≡ next_numbers (parents_next_of (holding held x y z)) }
 {
     let current = holding(held, x, y, z);
-    let cursor = Parents { current };
-    match cursor.next() {
-        NextAnswer::Found(next) => {
-            let tile = next.tile;
-            let after = next.rest;
-            let following = after.current;
-            hold(tile, count, tx, ty, tz);
-            hold(following, rest, rx, ry, rz);
-            0
-        }
-        NextAnswer::Refused(why) => {
-            hold(OptionTile::None, count, tx, ty, tz);
-            hold(OptionTile::None, rest, rx, ry, rz);
-            errors::number(why)
-        }
-    }
+    let none = Next {
+        tile: None,
+        rest: AT_END,
+    };
+    let (number, next) = c_give::apart(Parents { current }.next(), none);
+    hold(next.tile, count, tx, ty, tz);
+    hold(next.rest.current, rest, rx, ry, rz);
+    number
 }
 
-fn holding(held: u8, x: u32, y: u32, z: u8) -> OptionTile
+fn holding(held: u8, x: u32, y: u32, z: u8) -> Option<Tile>
     ensures { result ≡ holding held x y z }
 {
     if held == 0 {
-        return OptionTile::None;
+        return None;
     }
-    OptionTile::Some(Tile { x, y, z })
+    Some(Tile { x, y, z })
 }
 
-fn hold(tile: OptionTile, count: &mut u8, x: &mut u32, y: &mut u32, z: &mut u8)
+fn hold(tile: Option<Tile>, count: &mut u8, x: &mut u32, y: &mut u32, z: &mut u8)
     ensures { held_at count.new x.new y.new z.new ≡ held_of tile }
 {
-    match tile {
-        OptionTile::Some(t) => {
-            *count = 1;
-            *x = t.x;
-            *y = t.y;
-            *z = t.z;
-        }
-        OptionTile::None => {
-            *count = 0;
-            *x = 0;
-            *y = 0;
-            *z = 0;
-        }
-    }
+    let t = tile.unwrap_or(Tile { x: 0, y: 0, z: 0 });
+    *count = tile.is_some() as u8;
+    *x = t.x;
+    *y = t.y;
+    *z = t.z;
 }
 
 pub fn sibling_relationship(x: u32, y: u32, relation: &mut u8) -> u8

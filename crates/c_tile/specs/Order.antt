@@ -1,7 +1,7 @@
 -- The order of two tiles as a number.
 use Rattle.std.specs.Prelude.{ℕ}
-use Rattle.tile.specs.declared.Ordering.{Ordering}
-use Rattle.tile.specs.declared.Ordering.TheVariants.{Less, Equal, Greater}
+use Rattle.std.specs.declared.cmp.Ordering.{Ordering}
+use Rattle.std.specs.declared.cmp.Ordering.TheVariants.{Less, Equal, Greater}
 
 abbrev pub order_number : Ordering → ℕ
 order_number Less = 0

@@ -8,7 +8,8 @@ ghost use Rattle.tile.specs.OnMap.{tile_at, tile_refusal, try_new};
 ghost use Rattle.tile.specs.Order.{tile_order};
 ghost use Rattle.tile.specs.Steps.{flip_of, up_of, down_of, left_tile_of, right_of, up_left_of, up_right_of, down_left_of, down_right_of};
 
-use tile::{Ordering, Tile};
+use std::cmp::Ordering;
+use tile::Tile;
 
 pub fn try_new(x: u32, y: u32, z: u8, tx: &mut u32, ty: &mut u32, tz: &mut u8) -> u8
     ensures { answered result (tile_at tx.new ty.new tz.new) ≡ try_new x y z }
@@ -42,7 +43,7 @@ pub fn cmp(ax: u32, ay: u32, az: u8, bx: u32, by: u32, bz: u8, order: &mut u8) -
         y: by,
         z: bz,
     };
-    *order = order_number(a.cmp(b));
+    *order = order_number(a.cmp(&b));
     0
 }
 

@@ -8,7 +8,8 @@ ghost use Rattle.tile_zbox.specs.Box.{box_at, box_case, box_refusal, contains_of
 ghost use Rattle.tile_zbox.specs.Box.{box_flip_of, from_tile_of, length_of, new_of, zoom_depth_of, zoom_in_of};
 ghost use Rattle.tile_zbox_numbers.specs.Boxes.{boxes_flip_of, numbers_length_of};
 
-use tile_zbox::{BoxAnswer, ExtentAnswer, TileZBox};
+use errors::Refusal;
+use tile_zbox::{Extent, TileZBox};
 
 pub fn new(
     minx: u32,
@@ -176,19 +177,19 @@ pub fn zoom_depth(
 pub fn length(zoom: u8, minx: u32, maxx: u32, miny: u32, maxy: u32, length: &mut u64) -> u8
     ensures { answered result length.new ≡ length_of (box_at zoom minx maxx miny maxy) }
 {
-    c_give::u64_number(zbox(zoom, minx, maxx, miny, maxy).length(), length)
+    c_give::value(zbox(zoom, minx, maxx, miny, maxy).length(), 0, length)
 }
 
 pub fn dx(zoom: u8, minx: u32, maxx: u32, miny: u32, maxy: u32, across: &mut u32) -> u8
     ensures { answered result across.new ≡ dx_of (box_at zoom minx maxx miny maxy) }
 {
-    c_give::u32_number(zbox(zoom, minx, maxx, miny, maxy).dx(), across)
+    c_give::value(zbox(zoom, minx, maxx, miny, maxy).dx(), 0, across)
 }
 
 pub fn dy(zoom: u8, minx: u32, maxx: u32, miny: u32, maxy: u32, down: &mut u32) -> u8
     ensures { answered result down.new ≡ dy_of (box_at zoom minx maxx miny maxy) }
 {
-    c_give::u32_number(zbox(zoom, minx, maxx, miny, maxy).dy(), down)
+    c_give::value(zbox(zoom, minx, maxx, miny, maxy).dy(), 0, down)
 }
 
 pub fn dxdy(
@@ -226,7 +227,7 @@ pub fn dimensions(
 pub fn boxes_length(boxes: &[u32], length: &mut u64) -> u8
     ensures { answered result length.new ≡ numbers_length_of boxes.now }
 {
-    c_give::u64_number(tile_zbox_numbers::boxes_length(boxes), length)
+    c_give::value(tile_zbox_numbers::boxes_length(boxes), 0, length)
 }
 
 pub fn boxes_flipy(boxes: &[u32], out: &mut [u32], count: &mut u64) -> u8
@@ -237,7 +238,7 @@ pub fn boxes_flipy(boxes: &[u32], out: &mut [u32], count: &mut u64) -> u8
 }
 
 fn give_box(
-    answer: BoxAnswer,
+    answer: Result<TileZBox, Refusal>,
     bz: &mut u8,
     left: &mut u32,
     right: &mut u32,
@@ -247,41 +248,22 @@ fn give_box(
     ensures { answered result (box_at bz.new left.new right.new top.new bottom.new)
         ≡ box_case answer }
 {
-    match answer {
-        BoxAnswer::Found(area) => {
-            *bz = area.zoom;
-            *left = area.minx;
-            *right = area.maxx;
-            *top = area.miny;
-            *bottom = area.maxy;
-            0
-        }
-        BoxAnswer::Refused(why) => {
-            *bz = 0;
-            *left = 0;
-            *right = 0;
-            *top = 0;
-            *bottom = 0;
-            errors::number(why)
-        }
-    }
+    let (number, area) = c_give::apart(answer, zbox(0, 0, 0, 0, 0));
+    *bz = area.zoom;
+    *left = area.minx;
+    *right = area.maxx;
+    *top = area.miny;
+    *bottom = area.maxy;
+    number
 }
 
-fn give_extent(answer: ExtentAnswer, across: &mut u32, down: &mut u32) -> u8
+fn give_extent(answer: Result<Extent, Refusal>, across: &mut u32, down: &mut u32) -> u8
     ensures { answered result (extent_at across.new down.new) ≡ extent_case answer }
 {
-    match answer {
-        ExtentAnswer::Found(extent) => {
-            *across = extent.across;
-            *down = extent.down;
-            0
-        }
-        ExtentAnswer::Refused(why) => {
-            *across = 0;
-            *down = 0;
-            errors::number(why)
-        }
-    }
+    let (number, extent) = c_give::apart(answer, Extent { across: 0, down: 0 });
+    *across = extent.across;
+    *down = extent.down;
+    number
 }
 
 // The box that the numbers of a call stand for.

@@ -10,13 +10,14 @@ ghost use Rattle.zoom.specs.Zooms.{and_zoom, max_xY, range_set, zoom_bit, zoom_b
 ghost use Rattle.zoom_bits.specs.Bits.{last_zoom};
 ghost use Rattle.zoom_ranges.specs.Ranges.{range_of, ranges_of};
 
-use zoom::{ZoomSet, ZoomSetAnswer};
+use errors::Refusal;
+use zoom::ZoomSet;
 use zoom_ranges::ZoomRange;
 
 pub fn zoom_max_xy(zoom: u8, max: &mut u32) -> u8
     ensures { answered result max.new ≡ max_xY zoom }
 {
-    c_give::u32_number(zoom::zoom_max_xy(zoom), max)
+    c_give::value(zoom::zoom_max_xy(zoom), 0, max)
 }
 
 pub fn zset2zvec(zset: u32, out: &mut [u8], count: &mut u64) -> u8
@@ -36,13 +37,13 @@ pub fn zset2zvec_rev(zset: u32, out: &mut [u8], count: &mut u64) -> u8
 pub fn zvec2zset(zvec: &[u8], zset: &mut u32) -> u8
     ensures { answered result zset.new ≡ zvec_set zvec.now }
 {
-    c_give::u32_number(zoom::zvec2zset(zvec), zset)
+    c_give::value(zoom::zvec2zset(zvec), 0, zset)
 }
 
 pub fn zvec2zset_rev(zvec: &[u8], zset: &mut u32) -> u8
     ensures { answered result zset.new ≡ zvec_set_rev zvec.now }
 {
-    c_give::u32_number(zoom::zvec2zset_rev(zvec), zset)
+    c_give::value(zoom::zvec2zset_rev(zvec), 0, zset)
 }
 
 pub fn zoom_ranges(zset: u32, lows: &mut [u8], highs: &mut [u8], count: &mut u64) -> u8
@@ -91,7 +92,7 @@ pub fn zoom_set(min: u8, max: u8, zset: &mut u32) -> u8
 pub fn zoom_bit_rev(zoom: u8, bit: &mut u32) -> u8
     ensures { answered result bit.new ≡ zoom_bit_rev zoom }
 {
-    c_give::u32_number(zoom::zoom_bit_rev(zoom), bit)
+    c_give::value(zoom::zoom_bit_rev(zoom), 0, bit)
 }
 
 pub fn zoom_range_from_max(max: u8, low: &mut u8, high: &mut u8) -> u8
@@ -120,17 +121,10 @@ fn give_range(range: ZoomRange, low: &mut u8, high: &mut u8) -> u8
     0
 }
 
-fn give_set(answer: ZoomSetAnswer, zset: &mut u32) -> u8
+fn give_set(answer: Result<ZoomSet, Refusal>, zset: &mut u32) -> u8
     ensures { answered result zset.new ≡ zoom_set_case answer }
 {
-    match answer {
-        ZoomSetAnswer::Set(set) => {
-            *zset = set.number();
-            0
-        }
-        ZoomSetAnswer::Refused(why) => {
-            *zset = 0;
-            errors::number(why)
-        }
-    }
+    let (number, set) = c_give::apart(answer, ZoomSet::new(0));
+    *zset = set.number();
+    number
 }

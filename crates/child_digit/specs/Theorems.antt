@@ -1,14 +1,19 @@
 -- What the digit of a tile tells of it, for those that hold tiles as Morton codes.
-use Rattle.std.specs.Prelude.{◌≡◌, List, ℕ, zero, suc, ◌+◌, ◌*◌, ◌/◌, ◌%◌, ◌<◌, get_or}
-use Rattle.std.proofs.Common.{ap, div-one, arith}
+use Rattle.std.specs.Prelude.{◌≡◌, refl, List, Result, Ok, Err, IsOk, ℕ, zero, suc, ◌+◌, ◌*◌, ◌/◌, ◌%◌, ◌<◌, get_or}
+use Rattle.std.proofs.Common.{ap, sym, ◌∙◌, div-one, arith}
 use Rattle.fns.specs.Laws.{parent_accepted}
-use Rattle.fns.specs.Parent.{parent_given}
+use Rattle.fns.specs.Parent.{no_ancestor, parent_case, parent_given}
+use Rattle.fns.specs.declared.Ancestor.{Ancestor}
+use Rattle.constants.specs.Limits.{at_least_29}
+use Rattle.errors.specs.Laws.{answer_refused, never_zero}
+use Rattle.errors.specs.declared.Refusal.{Refusal}
 use Rattle.fns.proofs.Theorems.{the_digits_under_any_root}
 use Rattle.quadkey.specs.Key.{key_from}
 use Rattle.quadtree.specs.Lists.{TileNumber}
 use Rattle.quadtree.specs.Numbers.{OfMap, morton_at, morton_of, morton_tile}
 use Rattle.quadtree.specs.OneTile.{morton_tile_lem}
 use Rattle.quadtree.specs.Tree.{four_codes}
+use Rattle.tile.specs.OnMap.{OnMap}
 use Rattle.tile.specs.declared.Tile.{Tile}
 use Rattle.child_digit.specs.Digit.{digit_of}
 
@@ -48,3 +53,10 @@ told_by_the_code q n h =
     let y : q / 2 % 2 ≡ t.y % 2 = rw f at b.1 in
     let e : morton_tile q ≡ t = rw n.number at (morton_tile_lem t n.on_map) in
     rw (x, y, e) (the_parent_as_the_root t n.on_map z)
+
+-- at a child of the root `parent` is not refused
+pub a_child_is_found : (x y : ℕ) → x < 2 → y < 2 → (r : Result Ancestor Refusal) → parent_case r ≡ parent_given x y 1 0 → IsOk r
+a_child_is_found x y h k (Ok up) e = refl
+a_child_is_found x y h k (Err why) e =
+    let m : OnMap x y 1 = record { zoom = omega (arith, at_least_29); column = omega arith; row = omega arith } in
+    absurd (never_zero why (sym (answer_refused why _ no_ancestor _ e) ∙ parent_accepted {n = 0} m (omega arith)))

@@ -6,14 +6,12 @@ ghost use Rattle.child_digit.specs.Digit.{digit_of};
 ghost use Rattle.quadtree.specs.Lists.{TileNumber};
 ghost use Rattle.quadtree.specs.Numbers.{morton_of, morton_tile};
 
-use tile::OptionU8;
-
 // Of the tile of a Morton code, which is not the root. `parent` is asked with the tile's parent as the root: the digit is the same, and of
 // the code only the last digit has to be taken apart.
 pub fn of_morton(q: u64) -> u8
     requires { TileNumber morton_of q × (1 < q) }
     ensures { result ≡ digit_of (morton_tile q) }
 {
-    let up = fns::parent((q % 2) as u32, (q / 2 % 2) as u32, 1, OptionU8::None);
-    up.digits[0]
+    let up = fns::parent((q % 2) as u32, (q / 2 % 2) as u32, 1, None);
+    up.unwrap().digits[0]
 }

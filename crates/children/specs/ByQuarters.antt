@@ -3,6 +3,7 @@ use Rattle.std.specs.Prelude.{◌≡◌, refl, List, [], ◌∷◌, ◌++◌, �
 use Rattle.std.proofs.Common.{sym, ap, ◌∙◌, append_assoc, append-nil, pow-suc, mul-le-mul_right, add-one, arith, length-append, length-drop, take-suc, take_at, drop_at, drop-drop, length-take-le}
 use Rattle.std.proofs.Math.Seq.{take-length, drop-length}
 use borrow.Rule.Slice.PartMut.{put_mid}
+use Rattle.children.specs.declared.Family.{Family}
 use Rattle.children.specs.Children.{family_of, gather, descendants}
 use Rattle.children.specs.Family.{family_four, child_entries, child_length, children_gathered}
 use Rattle.children.specs.Gathered.{gather_append, gather_one, gather_length}
@@ -81,24 +82,24 @@ one_place (a ∷ []) v e = refl
 one_place (a ∷ (b ∷ out)) v e = absurd (omega arith)
 
 -- the loop of `fill`, in one place: the first k quarters of a list stand written
-module _ (turn d x y z : ℕ) (memory : List ℕ) {q k : ℕ} {out : List ℕ} (size : q ≡ 4 ^ d) (whole : 4 * q ≡ length memory) (most : k ≤ 4)
-    (held : out ≡ quarters (child_entries turn d x y z) (family_of turn) q k memory) where
-  each : (i : ℕ) → length (child_entries turn d x y z i) ≡ q
-  each i = child_length turn d x y z i ∙ sym size
+module _ (order : Family) (d x y z : ℕ) (memory : List ℕ) {q k : ℕ} {out : List ℕ} (size : q ≡ 4 ^ d) (whole : 4 * q ≡ length memory) (most : k ≤ 4)
+    (held : out ≡ quarters (child_entries order d x y z) (family_of order) q k memory) where
+  each : (i : ℕ) → length (child_entries order d x y z i) ≡ q
+  each i = child_length order d x y z i ∙ sym size
 
   pub quarters_kept : length out ≡ length memory
   quarters_kept =
       let within : k * q ≤ length memory = omega (arith, mul-le-mul_right q most) in
-      ap length held ∙ quarters_length (child_entries turn d x y z) (family_of turn) q each k (rw (family_four turn) most) memory within
+      ap length held ∙ quarters_length (child_entries order d x y z) (family_of order) q each k (rw (family_four order) most) memory within
 
-  pub quarter_written : (part : List ℕ) → k < 4 → part ≡ child_entries turn d x y z (get_or (family_of turn) k 0)
-      → put_mid (k * q) (k * q + q - k * q) out part ≡ quarters (child_entries turn d x y z) (family_of turn) q (k + 1) memory
+  pub quarter_written : (part : List ℕ) → k < 4 → part ≡ child_entries order d x y z (get_or (family_of order) k 0)
+      → put_mid (k * q) (k * q + q - k * q) out part ≡ quarters (child_entries order d x y z) (family_of order) q (k + 1) memory
   quarter_written part h e =
       quarter_back (k * q) q out part
-      ∙ rw (held, e) (quarter_more (child_entries turn d x y z) (family_of turn) q each k (rw (family_four turn) h) memory)
+      ∙ rw (held, e) (quarter_more (child_entries order d x y z) (family_of order) q each k (rw (family_four order) h) memory)
 
-  pub quarters_done : k ≡ 4 → out ≡ entries_of (descendants (family_of turn) (suc d) x y z)
+  pub quarters_done : k ≡ 4 → out ≡ entries_of (descendants (family_of order) (suc d) x y z)
   quarters_done e =
-      held ∙ (ap (λ (n : ℕ). quarters (child_entries turn d x y z) (family_of turn) q n memory) (e ∙ sym (family_four turn))
-      ∙ (quarters_all (child_entries turn d x y z) (family_of turn) q memory (rw (family_four turn) whole)
-      ∙ sym (children_gathered turn d x y z)))
+      held ∙ (ap (λ (n : ℕ). quarters (child_entries order d x y z) (family_of order) q n memory) (e ∙ sym (family_four order))
+      ∙ (quarters_all (child_entries order d x y z) (family_of order) q memory (rw (family_four order) whole)
+      ∙ sym (children_gathered order d x y z)))

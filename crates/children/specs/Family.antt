@@ -1,10 +1,12 @@
 -- The four children of a tile, as the code computes them, and how many descendants it has below them.
-use Rattle.std.specs.Prelude.{◌≡◌, refl, Bool, true, false, List, ℕ, zero, suc, ◌+◌, ◌*◌, ◌/◌, ◌%◌, ◌^◌, ◌≤◌, ◌<◌, ltb, length, get_or}
-use Rattle.std.proofs.Common.{◌∙◌, pow-suc, mul_comm, mul-le-mul_right, add-one, arith}
+use Rattle.std.specs.Prelude.{◌≡◌, refl, Bool, true, false, List, ℕ, zero, suc, ◌+◌, ◌*◌, ◌/◌, ◌%◌, ◌^◌, ◌<◌, ltb, length, get_or}
+use Rattle.std.proofs.Common.{◌∙◌, pow-suc, mul_comm, add-one, arith}
 use Rattle.std.proofs.lemmas.List.{length-map}
 use Rattle.constants.specs.Limits.{max_zoom}
 use Rattle.errors.specs.Answer.{◌when◌, ◌else◌}
 use Rattle.tile.specs.OnMap.{OnMap, tile_refusal, too_deep_lem}
+use Rattle.children.specs.declared.Family.{Family}
+use Rattle.children.specs.declared.Family.TheVariants.{ZOrder, Clockwise}
 use Rattle.children.specs.Children.{family_of, gather, descendants}
 use Rattle.children.specs.Gathered.{gather_length, entries_gather}
 use Rattle.ids.specs.Entry.{entries_of}
@@ -16,48 +18,43 @@ descend_length family e (suc d) x y z =
     gather_length _ (4 ^ d) family (λ q. descend_length family e d (2 * x + q % 2) (2 * y + q / 2) (suc z))
     ∙ rw (e, pow-suc 4 d) (mul_comm 4 (4 ^ d))
 
-pub family_four : (turn : ℕ) → length (family_of turn) ≡ 4
-family_four zero = refl
-family_four (suc turn) = refl
+pub family_four : (order : Family) → length (family_of order) ≡ 4
+family_four ZOrder = refl
+family_four Clockwise = refl
 
-pub children_length : (turn d x y z : ℕ) → length (entries_of (descendants (family_of turn) d x y z)) ≡ 4 ^ d
-children_length turn d x y z =
-    length-map (descendants (family_of turn) d x y z) _ ∙ descend_length (family_of turn) (family_four turn) d x y z
+pub children_length : (order : Family) (d x y z : ℕ) → length (entries_of (descendants (family_of order) d x y z)) ≡ 4 ^ d
+children_length order d x y z =
+    length-map (descendants (family_of order) d x y z) _ ∙ descend_length (family_of order) (family_four order) d x y z
 
--- the column and the row of a family's child, as the code computes them
-pub family_place : (turn k : ℕ) → turn < 2 → k < 4
-    → (get_or (family_of turn) k 0 % 2 ≡ (k + turn * (k / 2)) % 2) × (get_or (family_of turn) k 0 / 2 ≡ k / 2)
-family_place zero zero h l = (refl, refl)
-family_place zero (suc zero) h l = (refl, refl)
-family_place zero (suc (suc zero)) h l = (refl, refl)
-family_place zero (suc (suc (suc zero))) h l = (refl, refl)
-family_place zero (suc (suc (suc (suc k)))) h l = absurd (omega arith)
-family_place (suc zero) zero h l = (refl, refl)
-family_place (suc zero) (suc zero) h l = (refl, refl)
-family_place (suc zero) (suc (suc zero)) h l = (refl, refl)
-family_place (suc zero) (suc (suc (suc zero))) h l = (refl, refl)
-family_place (suc zero) (suc (suc (suc (suc k)))) h l = absurd (omega arith)
-family_place (suc (suc turn)) k h l = absurd (omega arith)
+-- the digit of a family's child
+pub digit_small : (order : Family) (k : ℕ) → get_or (family_of order) k 0 < 4
+digit_small ZOrder zero = omega arith
+digit_small ZOrder (suc zero) = omega arith
+digit_small ZOrder (suc (suc zero)) = omega arith
+digit_small ZOrder (suc (suc (suc zero))) = omega arith
+digit_small ZOrder (suc (suc (suc (suc k)))) = omega arith
+digit_small Clockwise zero = omega arith
+digit_small Clockwise (suc zero) = omega arith
+digit_small Clockwise (suc (suc zero)) = omega arith
+digit_small Clockwise (suc (suc (suc zero))) = omega arith
+digit_small Clockwise (suc (suc (suc (suc k)))) = omega arith
 
 -- the entries of one child's descendants
-abbrev pub child_entries : ℕ → ℕ → ℕ → ℕ → ℕ → ℕ → List ℕ
-child_entries turn d x y z q = entries_of (descendants (family_of turn) d (2 * x + q % 2) (2 * y + q / 2) (suc z))
+abbrev pub child_entries : Family → ℕ → ℕ → ℕ → ℕ → ℕ → List ℕ
+child_entries order d x y z q = entries_of (descendants (family_of order) d (2 * x + q % 2) (2 * y + q / 2) (suc z))
 
-pub child_length : (turn d x y z q : ℕ) → length (child_entries turn d x y z q) ≡ 4 ^ d
-child_length turn d x y z q = children_length turn d (2 * x + q % 2) (2 * y + q / 2) (suc z)
+pub child_length : (order : Family) (d x y z q : ℕ) → length (child_entries order d x y z q) ≡ 4 ^ d
+child_length order d x y z q = children_length order d (2 * x + q % 2) (2 * y + q / 2) (suc z)
 
-pub children_gathered : (turn d x y z : ℕ)
-    → entries_of (descendants (family_of turn) (suc d) x y z) ≡ gather (child_entries turn d x y z) (family_of turn)
+pub children_gathered : (order : Family) (d x y z : ℕ)
+    → entries_of (descendants (family_of order) (suc d) x y z) ≡ gather (child_entries order d x y z) (family_of order)
 unfolding descendants
-children_gathered turn d x y z = entries_gather _ (family_of turn)
+children_gathered order d x y z = entries_gather _ (family_of order)
 
 pub child_on_map : {x y z : ℕ} (a b : ℕ) → OnMap x y z → a < 2 → b < 2 → z < max_zoom → OnMap (2 * x + a) (2 * y + b) (z + 1)
 child_on_map {x} {y} {z} a b m h k l =
     let e : 2 ^ (z + 1) ≡ 2 * 2 ^ z = rw (add-one z, pow-suc 2 z) (omega arith) in
     record { zoom = omega arith; column = omega (arith, m.column); row = omega (arith, m.row) }
-
-pub turn_small : (turn k : ℕ) → turn < 2 → k < 4 → turn * (k / 2) < 2
-turn_small turn k h l = let t : turn ≤ 1 = omega arith in omega (arith, mul-le-mul_right (k / 2) t)
 
 pub child_too_deep : {z : ℕ} (x y target : ℕ) → max_zoom < z → (1 when ltb max_zoom target else tile_refusal x y z) ≡ 1
 child_too_deep {z} x y target h = rw (too_deep_lem {z = z} x y h) (pick (ltb max_zoom target))

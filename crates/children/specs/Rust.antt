@@ -1,10 +1,8 @@
 -- The Rust's `children`, `children_zorder` and `children1_zorder` as functions on values, in 32 bits for x and y and 8 for z, with its
 -- checks: a queue of tiles, with a bound on the turns of its loop.
-use Rattle.std.specs.Prelude.{cond, List, [], ◌∷◌, ◌++◌, ℕ, zero, suc, ltb}
+use Rattle.std.specs.Prelude.{cond, List, [], ◌∷◌, ◌++◌, ℕ, zero, suc, ltb, Option, unwrap_or}
 use Rattle.bits.specs.Checked.{Run, stops, returns, ◌then◌, plus, times}
-use Rattle.tile.specs.Option.{unwrap_or}
 use Rattle.tile.specs.Rust.{rust_new}
-use Rattle.tile.specs.declared.OptionU8.{OptionU8}
 use Rattle.tile.specs.declared.Tile.{Tile}
 
 -- `x * 2` and `x * 2 + 1`
@@ -39,11 +37,11 @@ rust_queue four zoom (suc turns) (t ∷ tiles) =
     cond (ltb t.z zoom) (four t then λ l. rust_queue four zoom turns (tiles ++ l)) (returns (t ∷ tiles))
 
 -- `zoom.unwrap_or(z + 1)`, whose argument is computed first, and the tile that the queue begins with
-abbrev pub rust_descend : (Tile → Run (List Tile)) → ℕ → ℕ → ℕ → ℕ → OptionU8 → Run (List Tile)
+abbrev pub rust_descend : (Tile → Run (List Tile)) → ℕ → ℕ → ℕ → ℕ → Option ℕ → Run (List Tile)
 rust_descend four turns x y z zoom = plus 8 z 1 then λ next. rust_new x y z then λ t. rust_queue four (unwrap_or zoom next) turns (t ∷ [])
 
-abbrev pub rust_children : ℕ → ℕ → ℕ → ℕ → OptionU8 → Run (List Tile)
+abbrev pub rust_children : ℕ → ℕ → ℕ → ℕ → Option ℕ → Run (List Tile)
 rust_children = rust_descend rust_clockwise
 
-abbrev pub rust_children_zOrder : ℕ → ℕ → ℕ → ℕ → OptionU8 → Run (List Tile)
+abbrev pub rust_children_zOrder : ℕ → ℕ → ℕ → ℕ → Option ℕ → Run (List Tile)
 rust_children_zOrder = rust_descend rust_zOrder

@@ -1,5 +1,5 @@
 -- What the definitions of this crate come to, in document 01's words, and that the Rust gives the same. Nothing is assumed.
-use Rattle.std.specs.Prelude.{◌≡◌, refl, ◌↔◌, ℕ, suc, ◌+◌, ◌-◌, ◌*◌, ◌/◌, ◌%◌, ◌^◌, ◌≤◌, ◌<◌, length, take, drop, get_or}
+use Rattle.std.specs.Prelude.{◌≡◌, refl, ◌↔◌, ℕ, suc, ◌+◌, ◌-◌, ◌*◌, ◌/◌, ◌%◌, ◌^◌, ◌≤◌, ◌<◌, length, take, drop, get_or, Option, unwrap_or}
 use Rattle.std.proofs.Common.{sym, ap, ◌∙◌, div-one, arith, lt-ltb, le-ltb}
 use mathlib.Core.List.{List, [], ◌∷◌, ◌++◌, map, flat_map, Memᴰ}
 use Rattle.std.proofs.lemmas.List.{length-map}
@@ -9,10 +9,8 @@ use Rattle.constants.specs.Limits.{max_zoom}
 use Rattle.ids.specs.Entry.{entry_of, entry_tile, entry_refusal, entries_of}
 use Rattle.ids.proofs.EntryLemmas.{entry_accepted, entry_tile_again}
 use Rattle.ids.specs.Rmid.{level_start}
-use Rattle.tile.specs.Option.{unwrap_or}
 use Rattle.tile.specs.OnMap.{OnMap, tile_at, on_map_accepted}
 use Rattle.tile.specs.Rust.{To29}
-use Rattle.tile.specs.declared.OptionU8.{OptionU8}
 use Rattle.tile.specs.declared.Tile.{Tile}
 use Rattle.children.specs.Children.{clockwise, z_order, gather, descendants, children_of}
 use Rattle.children.specs.Family.{descend_length}
@@ -139,7 +137,7 @@ module _ (family : List ℕ) (size : length family ≡ 4) {x y z : ℕ} (m : OnM
 
 -- The Rust is held to tiles of zoom 0 to 29 and targets to 29. On them no check fails, and after as many turns as the zooms between have
 -- tiles, or more, its loop has ended with the descendants in our order.
-module _ (x y z : ℕ) (zoom : OptionU8) (turns : ℕ) (on_map : To29 x y z)
+module _ (x y z : ℕ) (zoom : Option ℕ) (turns : ℕ) (on_map : To29 x y z)
     (target : unwrap_or zoom (z + 1) ≤ 29) (enough : level_start (unwrap_or zoom (z + 1) - z) ≤ turns) where
   descended : (family : List ℕ) → IsFamily family → length family ≡ 4 → (four : Tile → Run (List Tile)) → FindsChildren four family
       → rust_descend four turns x y z zoom ≡ returns (descendants family (unwrap_or zoom (z + 1) - z) x y z)

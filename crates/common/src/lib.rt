@@ -13,6 +13,7 @@ pub fn common(a: &[u64], b: &[u64], out: &mut [u64]) -> usize
     let mut i = 0;
     let mut j = 0;
     let mut n = 0;
+    // Each turn finds out which of the two lists goes on, so neither is gone over by a `for`, nor the two by `zip`.
     while i < a.len() && j < b.len() {
         let p = a[i];
         let q = b[j];

@@ -1,11 +1,10 @@
 -- The middle of `left`: the first i tiles are walked, and their locations are written.
 use Rattle.std.specs.Prelude.{◌≡◌, List, [], ◌∷◌, ◌++◌, map, ℕ, ◌+◌, ◌-◌, ◌≤◌, ◌<◌, length, take, get_or}
-use Rattle.std.proofs.Common.{sym, ap, ◌∙◌, append_assoc, append-nil, add-one, take_all, take-suc}
+use Rattle.std.proofs.Common.{sym, ap, ◌∙◌, append_assoc, append-nil, add-one, take-suc}
 use Rattle.std.proofs.lemmas.List.{map-append}
 use native.Mathlib.Omega.{arith}
-use Rattle.std.proofs.lemmas.List.Edits.{sets}
 use Rattle.constants.specs.Limits.{max_zoom}
-use Rattle.quadtree.specs.Numbers.{location_of, location_tile}
+use Rattle.quadtree.specs.Numbers.{location_tile}
 use Rattle.quadtree.specs.Locations.{low_of, start_of, tiles, Runs}
 use Rattle.tile.specs.declared.Tile.{Tile}
 use Rattle.difference.specs.Left.{left_of, left_of_all, left_at, without}
@@ -45,8 +44,3 @@ module _ (kept gone before : List ℕ) where
       come = λ j a b. come_on w.come (omega (arith, (runs.each i h).again, runs.rise i j (omega arith) b));
       wrote = rw (without_next kept gone i h) (wrote_both m.wrote w.wrote);
     }
-
-    pub ended : length kept ≤ i → (count ≡ length (without kept gone)) × (after ≡ sets before 0 (map location_of (without kept gone)))
-    ended h =
-        let w = rw (take_all i kept h) at m.wrote in
-        (omega (arith, w.counted), w.written)

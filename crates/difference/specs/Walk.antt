@@ -2,9 +2,7 @@
 use Rattle.std.specs.Prelude.{◌≡◌, refl, Bool, true, false, List, [], ◌∷◌, ◌++◌, map, ℕ, suc, ◌+◌, ◌-◌, ◌*◌, ◌≤◌, ◌<◌, length, drop, set}
 use Rattle.std.proofs.Common.{sym, ap, ◌∙◌, add-zero, arith, length-append}
 use Rattle.std.proofs.lemmas.List.{map-append, length-map}
-use Rattle.std.proofs.Math.Decide.{dec_lt}
 use Rattle.std.proofs.lemmas.List.Edits.{sets, sets-eq}
-use Rattle.std.proofs.Math.Seq.{length-sets}
 use Rattle.constants.specs.Limits.{max_zoom}
 use Rattle.quadtree.specs.Numbers.{location_of, location_tile}
 use Rattle.quadtree.specs.Locations.{low_of, start_of, end_of, IsLocation, tiles, Runs}
@@ -54,14 +52,6 @@ pub record Walked (left : List Tile) (gone : List ℕ) (to count : ℕ) (before 
 pub behind_none : (gone : List ℕ) (to : ℕ) → Behind gone to 0
 behind_none gone to = record { within = omega arith; each = λ i h. absurd (omega arith) }
 
-pub behind_more : {gone : List ℕ} {to next : ℕ} → Behind gone to next → next < length gone → end_of (tiles gone next) ≤ to
-    → Behind gone to (next + 1)
-behind_more {gone} {to} {next} b h e = record { within = omega arith; each = λ i k. pick i k (dec_lt i next) }
-  where
-    pick : (i : ℕ) → i < next + 1 → Dec (i < next) → end_of (tiles gone i) ≤ to
-    pick i k (yes l) = b.each i l
-    pick i k (no l) = let f : i ≡ next = omega arith in rw f e
-
 pub behind_on : {gone : List ℕ} {a b next : ℕ} → Behind gone a next → a ≤ b → Behind gone b next
 behind_on s h = record { within = s.within; each = λ i k. omega (arith, s.each i k) }
 
@@ -77,9 +67,6 @@ sets_append l i (v ∷ a) b =
 -- where there is room for all of them, they stand at the front
 pub sets_front : (l vs : List ℕ) → length vs ≤ length l → sets l 0 vs ≡ vs ++ drop (length vs) l
 sets_front l vs h = let e : 0 + length vs ≡ length vs = omega arith in rw e at (sets-eq vs l 0 (omega arith))
-
-pub wrote_length : {left : List Tile} {count r : ℕ} {before after : List ℕ} → Wrote left count r before after → length after ≡ length before
-wrote_length {left} {count} {r} {before} w = ap length w.written ∙ length-sets before count (map location_of left)
 
 pub wrote_none : (count : ℕ) (l : List ℕ) → Wrote [] count count l l
 wrote_none count l = record { counted = omega arith; written = refl }

@@ -8,9 +8,12 @@ ghost use Rattle.quadtree.specs.Locations.{end_of, tiles, Runs};
 ghost use Rattle.difference.specs.Left.{left_at, four_at, without};
 ghost use Rattle.difference.specs.Walk.{Behind, AtTile, AtFour, Clear, Walked};
 
-// How far the walk has come: the next of the tiles that are taken away, and how many tiles are left so far.
-#[derive(Clone, Copy)]
-struct Mark {
+// The walk along the quadtree: the tiles taken away and the next of them, where the locations of what is left go, and how many are left
+// so far.
+#[derive(Drop)]
+struct Walk<'a> {
+    gone: &'a [u64],
+    out: &'a mut [u64],
     next: usize,
     count: usize,
 }
@@ -21,103 +24,100 @@ pub fn left(kept: &[u64], gone: &[u64], out: &mut [u64]) -> usize
     ensures value { result ≡ length (without kept.now gone.now) }
     ensures out_after { out.new ≡ sets out.old 0 (map location_of (without kept.now gone.now)) }
 {
-    let mut at = Mark { next: 0, count: 0 };
-    let mut i = 0;
-    while i < kept.len() {
-        let k = kept[i];
-        at = tile(k, quadtree::low_bit(k), gone, out, at);
-        i += 1;
-    }
-    at.count
-}
-
-// A tile is kept, dropped, or handed to its four children. Half its run is `low` long.
-#[cycle(four_tile)]
-fn tile(k: u64, low: u64, gone: &[u64], out: &mut [u64], at: Mark) -> Mark
-    requires { AtTile gone.now k low at.next at.count }
-    ensures { Walked (left_at gone.now k) gone.now (k + low) at.count out.old out.new
-        result.next result.count }
-{
-    let here = Mark {
-        next: passed(gone, at.next, k - low),
-        count: at.count,
+    let mut walk = Walk {
+        gone,
+        out,
+        next: 0,
+        count: 0,
     };
-    let next = here.next;
-    if clear(gone, next, k + low) {
-        return keep(k, out, here);
+    for k in kept {
+        walk.tile(*k, quadtree::low_bit(*k));
     }
-    let g = gone[next];
-    if low <= quadtree::low_bit(g) {
-        return here;
-    }
-    four(k, low / 4, gone, out, here)
+    walk.count
 }
 
-// The four children, in the quadtree's order. Half a child's run is `quarter` long. Most of them are kept, and are not worth a call
-// of `tile`, which passes two slices through memory.
-#[cycle(four_tile)]
-fn four(k: u64, quarter: u64, gone: &[u64], out: &mut [u64], at: Mark) -> Mark
-    requires { AtFour gone.now k quarter at.next at.count }
-    ensures { Walked (four_at gone.now k) gone.now (k + 4 * quarter) at.count out.old
-        out.new result.next result.count }
-{
-    let mut here = at;
-    let mut i = 0;
-    while i < 4 {
-        let child = k - 3 * quarter + 2 * i * quarter;
-        here = if clear(gone, here.next, child + quarter) {
-            keep(child, out, here)
-        } else {
-            tile(child, quarter, gone, out, here)
-        };
-        i += 1;
-    }
-    here
-}
-
-// Whether the tiles taken away, from the next one on, start at `end` or after it.
-fn clear(gone: &[u64], next: usize, end: u64) -> bool
-    requires { Runs gone.now × (next ≤ length gone.now) }
-    ensures { Clear result gone.now next end }
-{
-    if next == gone.len() {
-        return true;
-    }
-    let g = gone[next];
-    if g - quadtree::low_bit(g) < end {
-        return false;
-    }
-    true
-}
-
-// The tiles taken away that end at `start` or before it are passed.
-fn passed(gone: &[u64], from: usize, start: u64) -> usize
-    requires runs { Runs gone.now }
-    requires behind { Behind gone.now start from }
-    ensures { Behind gone.now start result × (result < length gone.now → start < end_of (tiles gone.now result)) }
-{
-    let mut next = from;
-    while next < gone.len() {
-        let g = gone[next];
-        if start < g + quadtree::low_bit(g) {
-            return next;
+impl<'a> Walk<'a> {
+    // A tile is kept, dropped, or handed to its four children. Half its run is `low` long.
+    #[cycle(four_tile)]
+    fn tile(&mut self, k: u64, low: u64)
+        requires { AtTile self.old.gone.now k low self.old.next self.old.count }
+        ensures same_reference { self.new.out.ghost_name ≡ self.old.out.ghost_name }
+        ensures same_gone { self.new.gone ≡ self.old.gone }
+        ensures walked { Walked (left_at self.old.gone.now k) self.old.gone.now (k + low) self.old.count self.old.out.now
+            self.new.out.now self.new.next self.new.count }
+    {
+        self.pass(k - low);
+        if self.clear(k + low) {
+            self.keep(k);
+            return;
         }
-        next += 1;
+        if quadtree::low_bit(self.gone[self.next]) < low {
+            self.four(k, low / 4);
+        }
     }
-    next
-}
 
-// One tile more is left.
-fn keep(k: u64, out: &mut [u64], at: Mark) -> Mark
-    requires { at.count < 2 ^ 63 }
-    ensures { (result.next ≡ at.next) × (result.count ≡ at.count + 1) × (out.new ≡ set out.old at.count k) }
-{
-    let count = at.count;
-    if count < out.len() {
-        out[count] = k;
+    // The four children, in the quadtree's order. Half a child's run is `quarter` long. Most of them are kept, and are not worth a call
+    // of `tile`.
+    #[cycle(four_tile)]
+    fn four(&mut self, k: u64, quarter: u64)
+        requires { AtFour self.old.gone.now k quarter self.old.next self.old.count }
+        ensures same_reference { self.new.out.ghost_name ≡ self.old.out.ghost_name }
+        ensures same_gone { self.new.gone ≡ self.old.gone }
+        ensures walked { Walked (four_at self.old.gone.now k) self.old.gone.now (k + 4 * quarter) self.old.count self.old.out.now
+            self.new.out.now self.new.next self.new.count }
+    {
+        for i in 0..4 {
+            let child = k - 3 * quarter + 2 * i * quarter;
+            if self.clear(child + quarter) {
+                self.keep(child);
+            } else {
+                self.tile(child, quarter);
+            }
+        }
     }
-    Mark {
-        next: at.next,
-        count: count + 1,
+
+    // Whether the tiles taken away, from the next one on, start at `end` or after it.
+    fn clear(&self, end: u64) -> bool
+        requires { Runs self.now.gone.now × (self.now.next ≤ length self.now.gone.now) }
+        ensures { Clear result self.now.gone.now self.now.next end }
+    {
+        match self.gone.get(self.next) {
+            None => true,
+            Some(g) => end <= *g - quadtree::low_bit(*g),
+        }
+    }
+
+    // The tiles taken away that end at `start` or before it are passed.
+    fn pass(&mut self, start: u64)
+        requires runs { Runs self.old.gone.now }
+        requires behind { Behind self.old.gone.now start self.old.next }
+        ensures same_reference { self.new.out.ghost_name ≡ self.old.out.ghost_name }
+        ensures same { (self.new.gone ≡ self.old.gone) × (self.new.out.now ≡ self.old.out.now) × (self.new.count ≡ self.old.count) }
+        ensures behind { Behind self.old.gone.now start self.new.next
+            × (self.new.next < length self.old.gone.now → start < end_of (tiles self.old.gone.now self.new.next)) }
+    {
+        // The index is what is looked for; `position` would count from the next one on, and need a proof of the sum in a closure.
+        for next in self.next..self.gone.len() {
+            let g = self.gone[next];
+            if start < g + quadtree::low_bit(g) {
+                self.next = next;
+                return;
+            }
+        }
+        self.next = self.gone.len();
+    }
+
+    // One tile more is left.
+    fn keep(&mut self, k: u64)
+        requires { self.old.count < 2 ^ 63 }
+        ensures same_reference { self.new.out.ghost_name ≡ self.old.out.ghost_name }
+        ensures same { (self.new.gone ≡ self.old.gone) × (self.new.next ≡ self.old.next) }
+        ensures kept { (self.new.count ≡ self.old.count + 1) × (self.new.out.now ≡ set self.old.out.now self.old.count k) }
+    {
+        // This test closes with no answer; `get_mut` in its place would read no shorter, and needs one.
+        if self.count < self.out.len() {
+            self.out[self.count] = k;
+        }
+        self.count += 1;
     }
 }

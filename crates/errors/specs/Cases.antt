@@ -1,42 +1,29 @@
--- The answers that are enums, each case as document 01's number and value.
-use Rattle.std.specs.Prelude.{Bool, false, ℕ, List}
+-- What a call answers that may be refused, as document 01's number and value.
+--   case_of none r     the answer r, where a refused call's value is `none`, the zero of its type
+--   number_case r      the same of a number, and `bool_case r` of yes or no
+--   check_number r     the refusal's number alone, 0 where there is none
+use Rattle.std.specs.Prelude.{Bool, false, ℕ, List, Result, Ok, Err}
 use Rattle.errors.specs.Answer.{Answer, Lent, number_of}
 use Rattle.errors.specs.declared.Refusal.{Refusal}
-use Rattle.errors.specs.declared.Check.{Check}
-use Rattle.errors.specs.declared.Check.TheVariants as check
-use Rattle.errors.specs.declared.Count.{Count}
-use Rattle.errors.specs.declared.Count.TheVariants as count
-use Rattle.errors.specs.declared.BoolAnswer.{BoolAnswer}
-use Rattle.errors.specs.declared.BoolAnswer.TheVariants as bool
-use Rattle.errors.specs.declared.U32Answer.{U32Answer}
-use Rattle.errors.specs.declared.U32Answer.TheVariants as u32
-use Rattle.errors.specs.declared.U64Answer.{U64Answer}
-use Rattle.errors.specs.declared.U64Answer.TheVariants as u64
 
 -- a refused call of any type: the number, and the type's zero
 abbrev pub refused_as : {A : Type 0} → Refusal → A → Answer A
 refused_as why none = record { number = number_of why; value = none }
 
-abbrev pub check_number : Check → ℕ
-check_number check.Fine = 0
-check_number (check.Refused why) = number_of why
+abbrev pub case_of : {A : Type 0} → A → Result A Refusal → Answer A
+case_of none (Ok v) = record { number = 0; value = v }
+case_of none (Err why) = refused_as why none
 
-abbrev pub count_case : Count → Answer ℕ
-count_case (count.Counted n) = record { number = 0; value = n }
-count_case (count.Refused why) = refused_as why 0
+abbrev pub number_case : Result ℕ Refusal → Answer ℕ
+number_case r = case_of 0 r
 
-abbrev pub bool_case : BoolAnswer → Answer Bool
-bool_case (bool.Told b) = record { number = 0; value = b }
-bool_case (bool.Refused why) = refused_as why false
+abbrev pub bool_case : Result Bool Refusal → Answer Bool
+bool_case r = case_of false r
 
-abbrev pub u32_case : U32Answer → Answer ℕ
-u32_case (u32.Number n) = record { number = 0; value = n }
-u32_case (u32.Refused why) = refused_as why 0
-
-abbrev pub u64_case : U64Answer → Answer ℕ
-u64_case (u64.Number n) = record { number = 0; value = n }
-u64_case (u64.Refused why) = refused_as why 0
+abbrev pub check_number : {A : Type 0} → Result A Refusal → ℕ
+check_number (Ok v) = 0
+check_number (Err why) = number_of why
 
 -- a counting call beside its memory
-abbrev pub left : Count → List ℕ → Lent ℕ
-left r memory = record { number = (count_case r).number; value = (count_case r).value; memory = memory }
+abbrev pub left : Result ℕ Refusal → List ℕ → Lent ℕ
+left r memory = record { number = (number_case r).number; value = (number_case r).value; memory = memory }

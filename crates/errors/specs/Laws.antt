@@ -1,14 +1,11 @@
 -- Laws of refusals: a refusal's number is never 0, so the first one of a chain stands.
-use Rattle.std.specs.Prelude.{◌≡◌, refl, List, ℕ, zero, suc}
+use Rattle.std.specs.Prelude.{◌≡◌, refl, List, ℕ, zero, suc, Result, Ok, Err}
 use Rattle.std.proofs.Common.{sym, ap, ◌∙◌, arith}
 use Rattle.errors.specs.Answer.{answer, lent, number_of, ◌else◌}
 use Rattle.errors.specs.Cases.{refused_as, check_number, left}
 use Rattle.errors.specs.declared.Refusal.{Refusal}
 use Rattle.errors.specs.declared.Refusal.TheVariants.{Zoom, OffMap, NoRelative, KeyLength, KeyByte, TooMany, NoTile, EmptyList}
 use Rattle.errors.specs.declared.Refusal.TheVariants.{MixedZooms, NoBox, NotSettled, Memory, LineLength, Brackets, NoForm, NoState}
-use Rattle.errors.specs.declared.Check.{Check}
-use Rattle.errors.specs.declared.Check.TheVariants as check
-use Rattle.errors.specs.declared.Count.TheVariants as count
 
 pub positive : (why : Refusal) → (n : ℕ) × (number_of why ≡ suc n)
 positive Zoom = (0, refl)
@@ -36,7 +33,7 @@ pub refused_answer : {A : Type 0} (why : Refusal) {n : ℕ} (none v : A) → n �
 refused_answer why none v e = let p = positive why in rw (e, p.1)
 
 pub refused_lent : (why : Refusal) {n : ℕ} (items memory : List ℕ) → n ≡ number_of why
-    → left (count.Refused why) memory ≡ lent n items memory
+    → left (Err why) memory ≡ lent n items memory
 refused_lent why items memory e = let p = positive why in rw (e, p.1)
 
 -- where a chain refuses nothing, no part of it does
@@ -45,10 +42,10 @@ else_zero zero m e = (refl, e)
 else_zero (suc n) m e = absurd (omega (arith, e))
 
 -- what a check says, in either case
-pub check_fine : {r : Check} {n : ℕ} → r ≡ check.Fine → check_number r ≡ n → n ≡ 0
+pub check_fine : {A : Type 0} {v : A} {r : Result A Refusal} {n : ℕ} → r ≡ Ok v → check_number r ≡ n → n ≡ 0
 check_fine p e = sym e ∙ ap check_number p
 
-pub check_refused : {r : Check} {why : Refusal} {n : ℕ} → r ≡ check.Refused why → check_number r ≡ n → number_of why ≡ n
+pub check_refused : {A : Type 0} {r : Result A Refusal} {why : Refusal} {n : ℕ} → r ≡ Err why → check_number r ≡ n → number_of why ≡ n
 check_refused p e = sym (ap check_number p) ∙ e
 
 -- what an answer says of its refusal and its value, in either case

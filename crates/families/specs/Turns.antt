@@ -1,6 +1,6 @@
 -- Passes until nothing changes: what stands after each turn of the loop, and at its end.
 use Rattle.std.specs.Prelude.{◌≡◌, refl, Bool, false, List, ◌++◌, ℕ, zero, suc, ◌+◌, ◌-◌, ◌≤◌, ◌<◌, length, take}
-use Rattle.std.proofs.Common.{sym, ap, ◌∙◌}
+use Rattle.std.proofs.Common.{sym, ap, ◌∙◌, add-one}
 use native.Mathlib.Omega.{arith}
 use Rattle.constants.specs.Limits.{max_zoom}
 use Rattle.quadtree.specs.Lists.{TileNumbers}
@@ -27,50 +27,41 @@ module _ (m : ℕ) (before : List ℕ) where
   abbrev S : Tile → Bool
   S = named morton_tile before
 
-  -- the first `left` Morton codes are those of the set after as many passes as zooms are gone
-  pub record Turn (codes : List ℕ) (left zooms : ℕ) : Type 0 where
+  -- the first `left` Morton codes are those of the set after so many passes
+  pub record Turn (codes : List ℕ) (left gone : ℕ) : Type 0 where
     pub within : left ≤ length codes
     pub numbers : TileNumbers morton_of (take left codes)
-    pub few : zooms ≤ max_zoom
-    pub set : named morton_tile (take left codes) ≡ passes (max_zoom - zooms) m S
+    pub few : gone ≤ max_zoom
+    pub set : named morton_tile (take left codes) ≡ passes gone m S
 
   pub first_turn : (codes : List ℕ) (left : ℕ) → left ≤ length codes → TileNumbers morton_of (take left codes) → take left codes ≡ before
-      → Turn codes left max_zoom
+      → Turn codes left 0
   unfolding passes
-  first_turn codes left h n e =
-      let f : max_zoom - max_zoom ≡ 0 = omega arith in
-      record { within = h; numbers = n; few = omega arith; set = rw f (ap (named morton_tile) e) }
+  first_turn codes left h n e = record { within = h; numbers = n; few = omega arith; set = ap (named morton_tile) e }
 
-  module _ (codes : List ℕ) (left zooms : ℕ) (T : Turn codes left zooms) (h : 0 < zooms) (part rest : List ℕ) (r : Joined)
+  module _ (codes : List ℕ) (left gone : ℕ) (T : Turn codes left gone) (h : gone < max_zoom) (part rest : List ℕ) (r : Joined)
       (p : Passed m (take left codes) part r) where
     more : Passed m (take left codes) (part ++ rest) r
     more = part_passed rest p
 
-    next : named morton_tile (take r.count (part ++ rest)) ≡ passes (max_zoom - (zooms - 1)) m S
-    next =
-        let e : suc (max_zoom - zooms) ≡ max_zoom - (zooms - 1) = omega (arith, T.few) in
-        more.set ∙ (ap (merged m) T.set ∙ (sym (pass_more (max_zoom - zooms) m S) ∙ ap (λ (i : ℕ). passes i m S) e))
+    next : named morton_tile (take r.count (part ++ rest)) ≡ passes (suc gone) m S
+    next = more.set ∙ (ap (merged m) T.set ∙ sym (pass_more gone m S))
 
-    pub next_turn : Turn (part ++ rest) r.count (zooms - 1)
-    next_turn = record { within = more.within; numbers = more.numbers; few = omega (arith, T.few); set = next }
+    pub next_turn : Turn (part ++ rest) r.count (gone + 1)
+    next_turn = record { within = more.within; numbers = more.numbers; few = omega arith; set = rw add-one next }
 
     pub last_turn : r.changed ≡ false → Still m before (part ++ rest) r.count
     last_turn f = record { within = more.within; numbers = more.numbers; set = next ∙ end }
       where
-        n : ℕ
-        n = max_zoom - zooms
+        same : merged m (passes gone m S) ≡ passes gone m S
+        same = λ i t. merged_same m (passes gone m S) (λ u. ap (λ (R : Tile → Bool). joins m R u) (sym T.set) ∙ p.still f u) t i
 
-        same : merged m (passes n m S) ≡ passes n m S
-        same = λ i t. merged_same m (passes n m S) (λ u. ap (λ (R : Tile → Bool). joins m R u) (sym T.set) ∙ p.still f u) t i
-
-        end : passes (max_zoom - (zooms - 1)) m S ≡ passes max_zoom m S
+        end : passes (suc gone) m S ≡ passes max_zoom m S
         end =
-            let a : max_zoom - (zooms - 1) ≡ 1 + n = omega (arith, T.few) in
-            let b : zooms + n ≡ max_zoom = omega (arith, T.few) in
-            ap (λ (i : ℕ). passes i m S) a
-            ∙ (still_later 1 n m S same ∙ (sym (still_later zooms n m S same) ∙ ap (λ (i : ℕ). passes i m S) b))
+            let b : max_zoom - gone + gone ≡ max_zoom = omega arith in
+            pass_more gone m S ∙ (same ∙ (sym (still_later (max_zoom - gone) gone m S same) ∙ ap (λ (i : ℕ). passes i m S) b))
 
-  pub turned_all : (codes : List ℕ) (left zooms : ℕ) → Turn codes left zooms → zooms ≤ 0 → Still m before codes left
-  turned_all codes left zooms T h =
-      let e : max_zoom - zooms ≡ max_zoom = omega arith in
+  pub turned_all : (codes : List ℕ) (left gone : ℕ) → Turn codes left gone → max_zoom ≤ gone → Still m before codes left
+  turned_all codes left gone T h =
+      let e : gone ≡ max_zoom = omega (arith, T.few) in
       record { within = T.within; numbers = T.numbers; set = T.set ∙ ap (λ (i : ℕ). passes i m S) e }

@@ -11,8 +11,8 @@ ghost use Rattle.sort.specs.Sort.{By};
 use constants::MAX_ZOOM;
 use quadtree::Key;
 
-// What a pass leaves at the front, and whether it joined anything.
-#[derive(Clone, Copy)]
+// What a pass leaves at the front, and whether it joined anything. The count is read in both cases, so this is no `Option`.
+#[derive(Clone, Copy, Debug, PartialEq, Eq)]
 pub struct Joined {
     pub count: usize,
     pub changed: bool,
@@ -25,12 +25,8 @@ pub fn merged(codes: &mut [u64], out: &mut [u64], m: u8) -> Joined
 {
     sort::sort_into(codes, out);
     let joined = pass(out, m);
-    let left = joined.count;
-    let count = tile_list::finish(out, left, codes, Key::Morton);
-    Joined {
-        count,
-        changed: joined.changed,
-    }
+    let count = tile_list::finish(out, joined.count, codes, Key::Morton);
+    Joined { count, ..joined }
 }
 
 // One pass over Morton codes in order.
@@ -52,15 +48,14 @@ pub fn passes(codes: &mut [u64], count: usize, scratch: &mut [u64], m: u8) -> us
     requires tile_numbers { TileNumbers morton_of (take count codes.old) }
     ensures { Still m (take count codes.old) codes.new result }
 {
+    // `count` stays beside `codes`: the contract is public and fixed, and speaks of all of `codes` at the end.
     let mut left = count;
-    let mut zooms = MAX_ZOOM;
-    while zooms > 0 {
+    for _ in 0..MAX_ZOOM {
         let joined = sorted_pass(&mut codes[..left], &mut scratch[..left], m);
         left = joined.count;
         if !joined.changed {
             return left;
         }
-        zooms -= 1;
     }
     left
 }
@@ -78,10 +73,7 @@ fn sorted_pass(codes: &mut [u64], scratch: &mut [u64], m: u8) -> Joined
 fn first_morton(m: u8) -> u64
     ensures { result ≡ first_morton m }
 {
-    if m < MAX_ZOOM {
-        return bits::wide_pow2(2 * (m + 1));
-    }
-    bits::wide_pow2(2 * (MAX_ZOOM + 1))
+    bits::wide_pow2(2 * (m.min(MAX_ZOOM) + 1))
 }
 
 // Families of Morton codes from `from` on are joined. What is left stands at the front, and the answer says how many numbers it is.
@@ -91,9 +83,10 @@ fn join(codes: &mut [u64], from: u64) -> usize
 {
     let mut count = 0;
     let mut i = 0;
+    // A family is passed at one step, so this is no `for`.
     while i < codes.len() {
         let q = codes[i];
-        if family_at(codes, i, from) {
+        if starts_with_family(&codes[i..], from) {
             codes[count] = q / 4;
             i += 4;
         } else {
@@ -105,20 +98,19 @@ fn join(codes: &mut [u64], from: u64) -> usize
     count
 }
 
-// Whether a family starts at place i: its first tile is left by the first digit, and the codes rise, so the first and the fourth decide.
-fn family_at(codes: &[u64], i: usize, from: u64) -> bool
-    requires { (i < length codes.now) × TileNumber morton_of (get_or codes.now i 0) × (1 < from) }
-    ensures { result ≡ four_from from (drop i codes.now) }
+// Whether a family stands first: its first tile is left by the first digit, and the codes rise, so the first and the fourth decide.
+fn starts_with_family(codes: &[u64], from: u64) -> bool
+    requires { TileNumber morton_of (get_or codes.now 0 0) × (1 < from) }
+    ensures { result ≡ four_from from codes.now }
 {
-    if codes.len() - i < 4 {
+    let [first, _, _, fourth, ..] = codes else {
+        return false;
+    };
+    if *first < from {
         return false;
     }
-    let q = codes[i];
-    if q < from {
+    if child_digit::of_morton(*first) != b'0' {
         return false;
     }
-    if child_digit::of_morton(q) != b'0' {
-        return false;
-    }
-    q + 3 == codes[i + 3]
+    *first + 3 == *fourth
 }

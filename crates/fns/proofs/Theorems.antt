@@ -1,7 +1,6 @@
 -- What the definitions of this crate come to, in document 01's words, and that the Rust gives the same. Nothing is assumed.
-use Rattle.std.specs.Prelude.{◌≡◌, refl, ◌↔◌, Bool, true, false, cond, not, ◌&&◌, ◌||◌, List, ◌++◌, ℕ, zero, suc, ◌+◌, ◌-◌, ◌*◌, ◌/◌, ◌%◌, ◌^◌, ◌≤◌, ◌<◌, eqb, leb, length, take, get_or, replicate}
+use Rattle.std.specs.Prelude.{◌≡◌, refl, ◌↔◌, Bool, true, false, cond, not, ◌&&◌, ◌||◌, List, ◌++◌, ℕ, zero, suc, ◌+◌, ◌-◌, ◌*◌, ◌/◌, ◌%◌, ◌^◌, ◌≤◌, ◌<◌, eqb, leb, length, take, get_or, replicate, None, Some}
 use Rattle.std.proofs.Common.{sym, ap, ◌∙◌, subst, le_trans, div-one, mod-lt, div-add-mod', arith, length-append, pow_pos, shr-shr, shr_lt, take_at, get_or-take, get_or-append-add, le-leb, le-ltb, lt-ltb, eqb-true, eq-eqb, ne_eqb}
-use Rattle.std.proofs.Math.Option.{none, some}
 use Rattle.std.proofs.Math.Decide.{dec_lt}
 use Rattle.std.proofs.Math.Nat.{add-sub_cancel_left}
 use Rattle.std.proofs.lemmas.List.{length-replicate}
@@ -18,7 +17,8 @@ use Rattle.tile.proofs.Theorems.{power_fits, rust_flipped_row}
 use Rattle.tile.specs.declared.Tile.{Tile}
 use Rattle.fns.specs.Fns.{min_max_of, is_tile, flipy_of, parent_refusal, parent_of, differ, first_zoom, bbox2zoom_of}
 use Rattle.fns.specs.Laws.{First, first_zoom_lem, one_first, mask_tells_apart, half_on_map, parent_step, nearest_parent, parent_accepted}
-use Rattle.fns.specs.Parent.{Ancestor, step_digits, parent_given}
+use Rattle.fns.specs.declared.Ancestor.{Ancestor}
+use Rattle.fns.specs.Parent.{step_digits, parent_given}
 use Rattle.fns.specs.Steps.{accepted_parent, get_d_replicate}
 use Rattle.fns.specs.Rust.{rust_minmax, rust_valid, rust_parent, none_is_three, rust_zooms, rust_bbox2zoom}
 
@@ -176,7 +176,7 @@ half_to_29 m h =
     record { zoom = omega (arith, m.zoom); column = u.column; row = u.row }
 
 -- one step up, and none above the root
-pub rust_nearest : (x y z : ℕ) → To29 x y z → 0 < z → rust_parent x y z 0 ≡ returns (some (tile_at (x / 2) (y / 2) (z - 1)))
+pub rust_nearest : (x y z : ℕ) → To29 x y z → 0 < z → rust_parent x y z 0 ≡ returns (Some (tile_at (x / 2) (y / 2) (z - 1)))
 unfolding rust_parent
 rust_nearest x y z m l =
     let u = half_to_29 m l in
@@ -190,7 +190,7 @@ rust_nearest x y z m l =
       lt-ltb _ _ u.row,
     )
 
-pub rust_root : (x y : ℕ) → rust_parent x y 0 0 ≡ returns none
+pub rust_root : (x y : ℕ) → rust_parent x y 0 0 ≡ returns None
 unfolding rust_parent
 rust_root x y = refl
 

@@ -1,5 +1,6 @@
 -- What the functions of this crate answer, from document 01.
-use Rattle.std.specs.Prelude.{Bool, cond, not, ◌||◌, ℕ, zero, suc, ◌+◌, ◌-◌, ◌/◌, ◌^◌, eqb, leb, ltb}
+use Rattle.errors.specs.declared.Refusal.{Refusal}
+use Rattle.std.specs.Prelude.{Bool, cond, not, ◌||◌, ℕ, zero, suc, ◌+◌, ◌-◌, ◌/◌, ◌^◌, eqb, leb, ltb, Result, Ok, Err}
 use Rattle.bits.specs.Bits.{bit}
 use Rattle.constants.specs.Limits.{max_zoom}
 use Rattle.errors.specs.Answer.{Answer, answer, ◌when◌, ◌else◌}
@@ -7,12 +8,10 @@ use Rattle.errors.specs.Cases.{refused_as}
 use Rattle.tile.specs.OnMap.{tile_at, no_tile_of, tile_refusal}
 use Rattle.tile.specs.declared.Tile.{Tile}
 use Rattle.fns.specs.declared.Limits.{Limits}
-use Rattle.fns.specs.declared.LimitsAnswer.{LimitsAnswer}
-use Rattle.fns.specs.declared.LimitsAnswer.TheVariants.{Found, Refused}
 
-abbrev pub min_max_case : LimitsAnswer → Answer Limits
-min_max_case (Found m) = record { number = 0; value = m }
-min_max_case (Refused why) = refused_as why (record { min = 0; max = 0 })
+abbrev pub min_max_case : Result Limits Refusal → Answer Limits
+min_max_case (Ok m) = record { number = 0; value = m }
+min_max_case (Err why) = refused_as why (record { min = 0; max = 0 })
 
 abbrev pub min_max_of : ℕ → Answer Limits
 min_max_of z = answer (1 when ltb max_zoom z) (record { min = 0; max = 0 }) (record { min = 0; max = 2 ^ z - 1 })

@@ -1,6 +1,5 @@
 -- What the Rust does in this crate's functions, as functions on values, in the Rust's own widths and with its checks. `flipy` is in tile's.
-use Rattle.std.specs.Prelude.{Bool, cond, not, ◌&&◌, ◌||◌, ℕ, zero, suc, eqb, leb}
-use Rattle.std.proofs.Math.Option.{Option, none, some}
+use Rattle.std.specs.Prelude.{Bool, cond, not, ◌&&◌, ◌||◌, ℕ, zero, suc, eqb, leb, Option, None, Some}
 use Rattle.std.specs.Int.Bits.{bit_and}
 use Rattle.bits.specs.Checked.{Run, returns, ◌then◌, plus, minus, power, shift_up, shift_down}
 use Rattle.errors.specs.Answer.{Answer}
@@ -20,14 +19,14 @@ rust_valid x y z =
 -- `parent`: one step up where no extra steps are left; else a call one zoom up, with one step fewer
 unfoldable pub rust_parent : ℕ → ℕ → ℕ → ℕ → Run (Option Tile)
 rust_parent x y z zero =
-    let up = shift_down 32 x 1 then λ a. shift_down 32 y 1 then λ b. minus z 1 then λ above. rust_new a b above then λ t. returns (some t) in
-    cond (eqb z 0) (returns none) up
+    let up = shift_down 32 x 1 then λ a. shift_down 32 y 1 then λ b. minus z 1 then λ above. rust_new a b above then λ t. returns (Some t) in
+    cond (eqb z 0) (returns None) up
 rust_parent x y z (suc n) = shift_down 32 x 1 then λ a. shift_down 32 y 1 then λ b. minus z 1 then λ above. rust_parent a b above n
 
 -- "Rust's None is refusal 3"
 abbrev pub none_is_three : Option Tile → Answer Tile
-none_is_three none = record { number = 3; value = no_tile_of }
-none_is_three (some t) = accepted t
+none_is_three None = record { number = 3; value = no_tile_of }
+none_is_three (Some t) = accepted t
 
 -- the test of `bbox2zoom`: the bits that a mask leaves
 abbrev pub masked_apart : ℕ → ℕ → ℕ → Bool

@@ -3,15 +3,17 @@ use Rattle.std.specs.Prelude.{◌≡◌, refl, Bool, true, false, ◌||◌, List
 use Rattle.std.proofs.Common.{sym, ap, ◌∙◌, append_assoc, add-one, arith, drop_at, length-take-le, le-leb, leb-false}
 use Rattle.std.proofs.lemmas.List.{set_split}
 use Rattle.constants.specs.Limits.{max_zoom, max_digits}
-use Rattle.errors.specs.Answer.{Lent, ◌when◌, ◌else◌}
-use Rattle.errors.specs.Laws.{else_zero}
+use Rattle.errors.specs.Answer.{Lent, number_of, ◌when◌, ◌else◌}
+use Rattle.errors.specs.Cases.{refused_as}
+use Rattle.errors.specs.Laws.{else_zero, refused_answer}
+use Rattle.errors.specs.declared.Refusal.{Refusal}
 use Rattle.quadkey.specs.Key.{digit_at, key_from, key_of}
 use Rattle.quadkey.specs.Spelling.{key_length_lem, key_in_two}
 use Rattle.tile.specs.OnMap.{OnMap, tile_at, no_tile_of, tile_refusal, on_map_accepted, accepted_on_map}
 use Rattle.tile.specs.declared.Tile.{Tile}
 use Rattle.fns.specs.Fns.{parent_refusal, parent_of}
 use Rattle.fns.specs.Laws.{half_on_map, parent_step, parent_accepted, nearest_parent}
-use Rattle.fns.specs.Parent.{step_digits, parent_given, ancestor_lent, parent_written}
+use Rattle.fns.specs.Parent.{no_ancestor, step_digits, parent_given, ancestor_lent, parent_written}
 
 pub written_refused : (x y z n : ℕ) (t : Tile) (room : List ℕ) {k : ℕ} → parent_refusal x y z n ≡ suc k
     → ancestor_lent (suc k) t room ≡ parent_written x y z n t room
@@ -95,7 +97,7 @@ accepted_parent x y z n e =
 -- places that were zeros: what is left there is the answer by value
 module _ (x y z n number : ℕ) (t : Tile) (room : List ℕ)
     (e : ancestor_lent number t room ≡ parent_written x y z n no_tile_of (replicate max_digits 0)) where
-  number_is : number ≡ parent_refusal x y z n
+  pub number_is : number ≡ parent_refusal x y z n
   number_is = ap (λ (l : Lent Tile). l.number) e
 
   pub number_small : number ≤ 3
@@ -122,3 +124,7 @@ module _ (x y z n number : ℕ) (t : Tile) (room : List ℕ)
       let v = ap (λ (l : Lent Tile). l.value) g in
       let d = ap (λ (l : Lent Tile). l.memory) g in
       (a.0, a.1, rw (v, d, drop_replicate (1 + n) max_digits, f))
+
+-- what `parent` answers where it is refused
+pub refused_value : (x y z n : ℕ) (why : Refusal) → number_of why ≡ parent_refusal x y z n → refused_as why no_ancestor ≡ parent_given x y z n
+refused_value x y z n why e = refused_answer why _ _ (sym e)

@@ -1,16 +1,15 @@
 -- The keys of `tiles`, one after the other: where they end, and how many bytes the next one takes.
-use Rattle.std.specs.Prelude.{◌≡◌, refl, Bool, true, false, cond, ℕ, zero, suc, ◌+◌, ◌≤◌, ◌<◌, eqb, length, take, drop, get_or}
+use Rattle.std.specs.Prelude.{◌≡◌, refl, Bool, true, false, cond, ℕ, zero, suc, ◌+◌, ◌≤◌, ◌<◌, eqb, length, take, drop, get_or, Some, None}
 use Rattle.std.proofs.Math.Path.{sym, ap}
 use Rattle.std.proofs.Common.{◌∙◌, true≢false, arith, length-drop, take-append-drop, drop_of_length-le, drop-drop, length-take-le, eqb-true}
 use mathlib.Core.List.{List, [], ◌∷◌, ◌++◌, append_assoc, head-eq_of_cons-eq, tail-eq_of_cons-eq, cons≢nil}
 use Rattle.bits.specs.Tests.{and_parts, all_of}
-use Rattle.form.specs.Ends.{KeysEnds, byte_split, split_byte}
+use Rattle.form.specs.Ends.{KeysEnds, byte_there, byte_split, split_byte}
 use Rattle.form.specs.Form.{space, closing, is_key_byte, is_run, all_runs, spaced}
 use Rattle.form.specs.Front.{KeysFirst, Ended}
 use Rattle.form.specs.Once.{one_run, run_bytes}
 use Rattle.form.proofs.OnceLemmas.{keys_ended}
 use Rattle.form.specs.Words.{run_length_of, behind_space, key_length}
-use Rattle.form.specs.declared.End.TheVariants.{At, Nowhere}
 
 -- the run at the front: its bytes, its length, and what stands behind it
 pub run_at_front : (l : List ℕ) → all_of is_key_byte (take (run_length_of l) l) ≡ true
@@ -60,16 +59,19 @@ unfolding is_run all_of
 long_run [] h e = absurd (omega arith)
 long_run (b ∷ l) h e = e
 
-behind_space_lem : (m n : ℕ) → behind_space m ≡ suc n → (m ≡ n) × (0 < m)
-behind_space_lem zero n e = absurd (omega (arith, e))
-behind_space_lem (suc m) n e = (omega (arith, e), omega arith)
+some_same : (m n : ℕ) → Some m ≡ Some n → m ≡ n
+some_same m n e = cc
 
-pub key_first : (bytes : List ℕ) (n : ℕ) → key_length bytes ≡ suc n → KeyFirst (take n (drop 1 bytes)) (drop (suc n) bytes) bytes
+behind_space_lem : (m n : ℕ) → behind_space m ≡ Some (suc n) → (m ≡ n) × (0 < m)
+behind_space_lem zero n e = cc
+behind_space_lem (suc m) n e = let k = some_same _ _ e in (omega (arith, k), omega arith)
+
+pub key_first : (bytes : List ℕ) (n : ℕ) → key_length bytes ≡ Some (suc n) → KeyFirst (take n (drop 1 bytes)) (drop (suc n) bytes) bytes
 unfolding key_length
-key_first [] n e = absurd (omega (arith, e))
+key_first [] n e = cc
 key_first (b ∷ bs) n e = pick (eqb b space) refl e
   where
-    pick : (t : Bool) → eqb b space ≡ t → cond t (behind_space (run_length_of bs)) 0 ≡ suc n → KeyFirst (take n bs) (drop n bs) (b ∷ bs)
+    pick : (t : Bool) → eqb b space ≡ t → cond t (behind_space (run_length_of bs)) None ≡ Some (suc n) → KeyFirst (take n bs) (drop n bs) (b ∷ bs)
     pick true f g =
         let h = behind_space_lem (run_length_of bs) n g in
         let k = run_within bs in
@@ -78,9 +80,9 @@ key_first (b ∷ bs) n e = pick (eqb b space) refl e
           ended = rw (← h.0) (run_ended bs);
           spelled = rw (eqb-true b space f, take-append-drop n bs);
         }
-    pick false f g = absurd (omega (arith, g))
+    pick false f g = cc
 
-pub first_key : (key rest bytes : List ℕ) → KeyFirst key rest bytes → key_length bytes ≡ suc (length key)
+pub first_key : (key rest bytes : List ℕ) → KeyFirst key rest bytes → key_length bytes ≡ Some (suc (length key))
 unfolding key_length is_run
 first_key [] rest bytes k = absurd (true≢false (sym k.run))
 first_key (b ∷ key) rest bytes k = rw (← k.spelled, run_length (b ∷ key) rest k.run k.ended)
@@ -149,48 +151,59 @@ pub record KeysRead (at : ℕ) (bytes : List ℕ) : Type 0 where
 pub passed_none : (bytes : List ℕ) → KeysRead 0 bytes
 passed_none bytes = record { within = omega arith; forth = λ keys rest a. (keys, a); back = λ keys rest a. (keys, a) }
 
-pub key_within : (bytes : List ℕ) → key_length bytes ≤ length bytes
+pub no_empty_key : (bytes : List ℕ) → key_length bytes ≡ Some 0 → ⊥
 unfolding key_length
-key_within [] = omega arith
-key_within (b ∷ bs) = pick (eqb b space) (run_length_of bs) (run_within bs)
+no_empty_key [] e = cc
+no_empty_key (b ∷ bs) e = pick (eqb b space) (run_length_of bs) e
   where
-    short : (n : ℕ) → behind_space n ≤ suc n
-    short zero = omega arith
-    short (suc n) = omega arith
+    pick : (t : Bool) (n : ℕ) → cond t (behind_space n) None ≡ Some 0 → ⊥
+    pick true zero e = cc
+    pick true (suc n) e = let k = some_same _ _ e in omega (arith, k)
+    pick false n e = cc
 
-    pick : (t : Bool) (n : ℕ) → n ≤ length bs → cond t (behind_space n) 0 ≤ suc (length bs)
-    pick true n h = omega (arith, short n)
-    pick false n h = omega arith
+pub some_key_taken : (bytes : List ℕ) (n : ℕ) → key_length bytes ≡ Some n → 0 < n
+some_key_taken bytes zero e = absurd (no_empty_key bytes e)
+some_key_taken bytes (suc n) e = omega arith
+
+pub key_within : (bytes : List ℕ) (k : ℕ) → key_length bytes ≡ Some k → k ≤ length bytes
+unfolding key_length
+key_within [] k e = cc
+key_within (b ∷ bs) k e = pick (eqb b space) (run_length_of bs) (run_within bs) e
+  where
+    pick : (t : Bool) (n : ℕ) → n ≤ length bs → cond t (behind_space n) None ≡ Some k → k ≤ suc (length bs)
+    pick true zero h e = cc
+    pick true (suc n) h e = let f = some_same _ _ e in omega (arith, h, f)
+    pick false n h e = cc
 
 module _ (at : ℕ) (bytes : List ℕ) (p : KeysRead at bytes) where
-  pub passed_key : (n : ℕ) → key_length (drop at bytes) ≡ suc n → KeysRead (at + suc n) bytes
+  pub passed_key : (n : ℕ) → key_length (drop at bytes) ≡ Some (suc n) → KeysRead (at + suc n) bytes
   passed_key n e =
       let k = key_first (drop at bytes) n e in
       let f : drop (suc n) (drop at bytes) ≡ drop (at + suc n) bytes = drop-drop (suc n) at bytes in
       record {
-        within = omega (arith, key_within (drop at bytes), length-drop at bytes, p.within);
+        within = omega (arith, key_within (drop at bytes) (suc n) e, length-drop at bytes, p.within);
         forth = λ keys rest a. p.forth (take n (drop 1 (drop at bytes)) ∷ keys) rest (one_more_key _ _ _ k keys rest (rw f a));
         back = λ all rest a. let b = p.back all rest a in let c = one_key_less _ _ _ k b.0 rest b.1 in (c.0, rw (← f) c.2);
       }
 
-  pub passed_some : (n : ℕ) → key_length (drop at bytes) ≡ n → (n ≡ 0 → ⊥) → KeysRead (at + n) bytes
-  passed_some zero e d = absurd (d refl)
-  passed_some (suc n) e d = passed_key n e
+  pub passed_some : (n : ℕ) → key_length (drop at bytes) ≡ Some n → KeysRead (at + n) bytes
+  passed_some zero e = absurd (no_empty_key (drop at bytes) e)
+  passed_some (suc n) e = passed_key n e
 
-  pub keys_closed : at < length bytes → get_or bytes at 0 ≡ closing → KeysEnds (At (at + 1)) bytes
-  keys_closed h e = (
-    omega (arith, h),
+  pub keys_closed : get_or bytes at 0 ≡ closing → KeysEnds (Some (at + 1)) bytes
+  keys_closed e = (
+    omega (arith, byte_there bytes at closing e (λ z. omega (arith, z))),
     p.forth [] (drop (at + 1) bytes)
         (no_more_keys (drop (at + 1) bytes) (drop at bytes) (sym (byte_split bytes at closing e (λ z. omega (arith, z))))),
   )
 
-  pub keys_broken : at < length bytes → (get_or bytes at 0 ≡ closing → ⊥) → key_length (drop at bytes) ≡ 0 → KeysEnds Nowhere bytes
-  keys_broken h d e all rest a = let b = p.back all rest a in go b.0 b.1
+  pub keys_broken : (get_or bytes at 0 ≡ closing → ⊥) → key_length (drop at bytes) ≡ None → KeysEnds None bytes
+  keys_broken d e all rest a = let b = p.back all rest a in go b.0 b.1
     where
       go : (keys : List (List ℕ)) → KeysFirst keys rest (drop at bytes) → ⊥
       go [] c = d (split_byte bytes at closing rest (sym (only_closing rest (drop at bytes) c)))
-      go (key ∷ keys) c = omega
-          (arith, e, first_key key (spaced keys ++ closing ∷ rest) (drop at bytes) (keys_first_key key keys rest (drop at bytes) c))
+      go (key ∷ keys) c =
+          let f = first_key key (spaced keys ++ closing ∷ rest) (drop at bytes) (keys_first_key key keys rest (drop at bytes) c) in cc
 
-  pub keys_past : length bytes ≤ at → KeysEnds Nowhere bytes
+  pub keys_past : length bytes ≤ at → KeysEnds None bytes
   keys_past h all rest a = let b = p.back all rest a in keys_not_empty b.0 rest (rw (drop_of_length-le bytes h) at b.1)

@@ -1,5 +1,5 @@
 -- What the reading of a line is, and which lines are refused before any key.
-use Rattle.std.specs.Prelude.{◌≡◌, refl, Bool, true, false, not, List, [], ◌++◌, ℕ, ◌≤◌, ◌<◌, ltb, length, drop}
+use Rattle.std.specs.Prelude.{◌≡◌, refl, Bool, true, false, not, List, [], ◌++◌, ℕ, ◌≤◌, ◌<◌, ltb, length, drop, Some, None}
 use Rattle.std.proofs.Common.{sym, ap, ◌∙◌, append-nil, arith, length-drop, ltb-false, lt-ltb, le-ltb}
 use Rattle.std.proofs.Math.Seq.{drop-length}
 use Rattle.constants.specs.Limits.{max_line}
@@ -7,7 +7,6 @@ use Rattle.errors.specs.Answer.{◌when◌, ◌else◌}
 use Rattle.form.specs.Ends.{FormEnds}
 use Rattle.form.specs.Form.{Form, text, Reads, too_deep}
 use Rattle.form.proofs.OnceLemmas.{one_form}
-use Rattle.form.specs.declared.End.TheVariants.{At, Nowhere}
 use Rattle.form.specs.Reading.{at_front, is_reading, line_refusal, reading, whole_refusal}
 
 -- no line has two readings
@@ -15,7 +14,7 @@ pub one_reading : (line : List ℕ) (f g : Form) → Reads line f → Reads line
 one_reading line f g a b = (one_form f g [] [] line (at_front line f a) (at_front line g b)).0
 
 -- a form that takes the whole line is its reading, and what stands at the front of a line otherwise is none
-pub whole_line : (line : List ℕ) (n : ℕ) (e : FormEnds (At n) line) → n ≡ length line → Reads line e.1.0
+pub whole_line : (line : List ℕ) (n : ℕ) (e : FormEnds (Some n) line) → n ≡ length line → Reads line e.1.0
 whole_line line n e h =
     record {
       formed = e.1.1.formed;
@@ -23,12 +22,12 @@ whole_line line n e h =
           sym (append-nil (text e.1.0)) ∙ (ap (λ (l : List ℕ). text e.1.0 ++ l) (sym (rw h (drop-length line))) ∙ e.1.1.spelled);
     }
 
-pub part_of_line : (line : List ℕ) (n : ℕ) (e : FormEnds (At n) line) → (n ≡ length line → ⊥) → (f : Form) → Reads line f → ⊥
+pub part_of_line : (line : List ℕ) (n : ℕ) (e : FormEnds (Some n) line) → (n ≡ length line → ⊥) → (f : Form) → Reads line f → ⊥
 part_of_line line n e d f a =
     let h = (one_form f e.1.0 [] (drop n line) line (at_front line f a) e.1.1).1 in
     d (omega (arith, e.0, ap length h, length-drop n line))
 
-pub no_reading : (line : List ℕ) → FormEnds Nowhere line → (f : Form) → Reads line f → ⊥
+pub no_reading : (line : List ℕ) → FormEnds None line → (f : Form) → Reads line f → ⊥
 no_reading line never f a = never f [] (at_front line f a)
 
 pub whole_fine : (line : List ℕ) (f : Form) → Reads line f → whole_refusal line ≡ 0

@@ -1,5 +1,5 @@
 -- Where a form, a list of keys or a pair of forms at the front of some bytes ends, and how the three hang together.
-use Rattle.std.specs.Prelude.{◌≡◌, Bool, true, cond, ℕ, suc, ◌+◌, ◌-◌, ◌^◌, ◌≤◌, ◌<◌, length, take, drop}
+use Rattle.std.specs.Prelude.{◌≡◌, Bool, true, cond, ℕ, suc, ◌+◌, ◌-◌, ◌≤◌, ◌<◌, length, take, drop, Option, Some, None}
 use Rattle.std.proofs.Math.Path.{refl, sym, ap}
 use Rattle.std.proofs.Common.{◌∙◌, true≢false, add-one, arith, length-append, length-drop, take_all, drop-cons, drop-drop, get_or-drop}
 use Rattle.std.proofs.Math.Bool.{false}
@@ -11,25 +11,23 @@ use Rattle.form.specs.Form.{space, opening, closing, Form, tiles, pair, is_form,
 use Rattle.form.specs.Front.{FormFirst, KeysFirst, PairFirst}
 use Rattle.form.specs.Once.{tiles_text, pair_text, letter_of, verb_letter, same_verb, tiles_no_verb}
 use Rattle.form.specs.Words.{starts_with, starts_with_lem, start_split, tiles_front, pair_front, word_at}
-use Rattle.form.specs.declared.End.{End}
-use Rattle.form.specs.declared.End.TheVariants.{At, Nowhere}
 use Rattle.form.specs.declared.Verb.{Verb}
 use Rattle.form.specs.declared.Verb.TheVariants.{Plus, Both, Minus}
 use Rattle.form.specs.declared.Word.{Word}
 use Rattle.form.specs.declared.Word.TheVariants as word
 
 -- what stands at the front takes that many bytes, or nothing of its kind stands there
-abbrev pub Ends : (A : Type 0) → (A → List ℕ → List ℕ → Type 0) → End → List ℕ → Type 0
-Ends A First (At n) bytes = (n ≤ length bytes) × ((a : A) × First a (drop n bytes) bytes)
-Ends A First Nowhere bytes = (a : A) (rest : List ℕ) → First a rest bytes → ⊥
+abbrev pub Ends : (A : Type 0) → (A → List ℕ → List ℕ → Type 0) → Option ℕ → List ℕ → Type 0
+Ends A First (Some n) bytes = (n ≤ length bytes) × ((a : A) × First a (drop n bytes) bytes)
+Ends A First None bytes = (a : A) (rest : List ℕ) → First a rest bytes → ⊥
 
-abbrev pub FormEnds : End → List ℕ → Type 0
+abbrev pub FormEnds : Option ℕ → List ℕ → Type 0
 FormEnds = Ends Form FormFirst
 
-abbrev pub KeysEnds : End → List ℕ → Type 0
+abbrev pub KeysEnds : Option ℕ → List ℕ → Type 0
 KeysEnds = Ends (List (List ℕ)) KeysFirst
 
-abbrev pub PairEnds : End → List ℕ → Type 0
+abbrev pub PairEnds : Option ℕ → List ℕ → Type 0
 PairEnds = Ends (Form × Form) (λ p. PairFirst p.0 p.1)
 
 -- of bytes that start with `(tiles`: a form there is a form of tiles, and the keys follow
@@ -92,10 +90,10 @@ module _ (verb : Verb) (body bytes : List ℕ) (e : pair_front verb ++ body ≡ 
       )
 
 -- what the word at the front says of the bytes
-abbrev pub Opened : Word → List ℕ → Type 0
-Opened word.Tiles bytes = tiles_front ++ drop (length tiles_front) bytes ≡ bytes
-Opened (word.Pair verb) bytes = pair_front verb ++ drop (length (pair_front verb)) bytes ≡ bytes
-Opened word.Other bytes = (f : Form) (rest : List ℕ) → FormFirst f rest bytes → ⊥
+abbrev pub Opened : Option Word → List ℕ → Type 0
+Opened (Some word.Tiles) bytes = tiles_front ++ drop (length tiles_front) bytes ≡ bytes
+Opened (Some (word.Pair verb)) bytes = pair_front verb ++ drop (length (pair_front verb)) bytes ≡ bytes
+Opened None bytes = (f : Form) (rest : List ℕ) → FormFirst f rest bytes → ⊥
 
 module _ (bytes : List ℕ) where
   tiles_front_lem : starts_with tiles_front bytes ≡ false → (keys : List (List ℕ)) (rest : List ℕ) → FormFirst (tiles keys) rest bytes → ⊥
@@ -129,27 +127,27 @@ module _ (bytes : List ℕ) where
       each p q r Minus = r
 
       fourth : starts_with tiles_front bytes ≡ false → starts_with (pair_front Plus) bytes ≡ false → starts_with (pair_front Both) bytes ≡ false
-          → (b : Bool) → starts_with (pair_front Minus) bytes ≡ b → Opened (cond b (word.Pair Minus) word.Other) bytes
+          → (b : Bool) → starts_with (pair_front Minus) bytes ≡ b → Opened (cond b (Some (word.Pair Minus)) None) bytes
       fourth t p q true e = start_split (pair_front Minus) bytes e
       fourth t p q false e = none t (each p q e)
 
       third : starts_with tiles_front bytes ≡ false → starts_with (pair_front Plus) bytes ≡ false → (b : Bool)
           → starts_with (pair_front Both) bytes ≡ b
-          → Opened (cond b (word.Pair Both) (cond (starts_with (pair_front Minus) bytes) (word.Pair Minus) word.Other)) bytes
+          → Opened (cond b (Some (word.Pair Both)) (cond (starts_with (pair_front Minus) bytes) (Some (word.Pair Minus)) None)) bytes
       third t p true e = start_split (pair_front Both) bytes e
       third t p false e = fourth t p e (starts_with (pair_front Minus) bytes) refl
 
       second : starts_with tiles_front bytes ≡ false → (b : Bool) → starts_with (pair_front Plus) bytes ≡ b
-          → Opened (cond b (word.Pair Plus)
-          (cond (starts_with (pair_front Both) bytes) (word.Pair Both)
-          (cond (starts_with (pair_front Minus) bytes) (word.Pair Minus) word.Other))) bytes
+          → Opened (cond b (Some (word.Pair Plus))
+          (cond (starts_with (pair_front Both) bytes) (Some (word.Pair Both))
+          (cond (starts_with (pair_front Minus) bytes) (Some (word.Pair Minus)) None))) bytes
       second t true e = start_split (pair_front Plus) bytes e
       second t false e = third t e (starts_with (pair_front Both) bytes) refl
 
       first : (b : Bool) → starts_with tiles_front bytes ≡ b
-          → Opened (cond b word.Tiles
-          (cond (starts_with (pair_front Plus) bytes) (word.Pair Plus) (cond (starts_with (pair_front Both) bytes) (word.Pair Both)
-          (cond (starts_with (pair_front Minus) bytes) (word.Pair Minus) word.Other)))) bytes
+          → Opened (cond b (Some word.Tiles)
+          (cond (starts_with (pair_front Plus) bytes) (Some (word.Pair Plus)) (cond (starts_with (pair_front Both) bytes) (Some (word.Pair Both))
+          (cond (starts_with (pair_front Minus) bytes) (Some (word.Pair Minus)) None)))) bytes
       first true e = start_split tiles_front bytes e
       first false e = second e (starts_with (pair_front Plus) bytes) refl
 
@@ -160,29 +158,19 @@ rest_part bytes n = take_all (length bytes - n) (drop n bytes) (omega (arith, le
 pub front_within : (front bytes : List ℕ) → front ++ drop (length front) bytes ≡ bytes → length front ≤ length bytes
 front_within front bytes e = omega (arith, ap length (sym e) ∙ length-append front (drop (length front) bytes))
 
-abbrev pub shifted : ℕ → End → End
-shifted n (At m) = At (n + m)
-shifted n Nowhere = Nowhere
-
--- the sum that `shifted` works out fits its type
-abbrev pub ShiftFits : ℕ → End → Type 0
-ShiftFits n (At m) = n + m < 2 ^ 64
-ShiftFits n Nowhere = Unit
-
-pub shift_fits : (A : Type 0) (First : A → List ℕ → List ℕ → Type 0) (n : ℕ) (end : End) (bytes : List ℕ) → Ends A First end bytes
-    → n + length bytes < 2 ^ 64 → ShiftFits n end
-shift_fits A First n (At m) bytes e h = omega (arith, e.0, h)
-shift_fits A First n Nowhere bytes e h = tt
+abbrev pub shifted : ℕ → Option ℕ → Option ℕ
+shifted n (Some m) = Some (n + m)
+shifted n None = None
 
 -- a form whose front is read ends where what follows the front does
 module _ (A : Type 0) (First : A → List ℕ → List ℕ → Type 0) (front bytes : List ℕ) (e : front ++ drop (length front) bytes ≡ bytes)
     (make : A → Form) (forth : (a : A) (rest : List ℕ) → First a rest (drop (length front) bytes) → FormFirst (make a) rest bytes)
     (back : (f : Form) (rest : List ℕ) → FormFirst f rest bytes → (a : A) × First a rest (drop (length front) bytes)) where
-  pub ends_behind : (end : End) → Ends A First end (drop (length front) bytes) → FormEnds (shifted (length front) end) bytes
-  ends_behind (At m) (h, (a, first)) =
+  pub ends_behind : (end : Option ℕ) → Ends A First end (drop (length front) bytes) → FormEnds (shifted (length front) end) bytes
+  ends_behind (Some m) (h, (a, first)) =
       let l = ap length (sym e) ∙ length-append front (drop (length front) bytes) in
       (omega (arith, l, h), (make a, forth a (drop (length front + m) bytes) (rw (← drop-drop m (length front) bytes) first)))
-  ends_behind Nowhere never = λ f rest a. let b = back f rest a in never b.0 rest b.1
+  ends_behind None never = λ f rest a. let b = back f rest a in never b.0 rest b.1
 
 -- a byte behind what was read; 0 stands for the end
 pub byte_there : (l : List ℕ) (n b : ℕ) → get_or l n 0 ≡ b → (b ≡ 0 → ⊥) → n < length l

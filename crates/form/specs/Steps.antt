@@ -1,30 +1,21 @@
--- What the loops over the bytes find, one byte after the other.
-use Rattle.std.specs.Prelude.{◌≡◌, refl, true, false, List, [], ◌∷◌, ℕ, zero, suc, ◌+◌, ◌≤◌, ◌<◌, eqb, drop, get_or}
+-- The steps of the code: a bracket more, the key behind a space, and the word that the bytes start with.
+use Rattle.std.specs.Prelude.{◌≡◌, refl, Bool, true, false, not, cond, List, [], ◌∷◌, ℕ, zero, suc, ◌+◌, ◌≤◌, ◌<◌, eqb, ltb, drop, get_or, take, Option, Some, None, unwrap_or}
 use Rattle.std.proofs.Common.{sym, ap, ◌∙◌, add-one, drop_of_length-le}
-use Rattle.std.proofs.Math.Bool.{and-false}
 use Rattle.std.proofs.Math.Decide.{dec_lt}
 use native.Mathlib.Omega.{arith}
 use Rattle.std.proofs.Math.ListN.{length}
 use Rattle.std.proofs.Math.Seq.{drop-cons}
-use borrow.Author.Tests.{lt-ltb, le-ltb, eq-eqb, ne_eqb}
+use Rattle.std.proofs.lemmas.List.Recursion.{is_position_or_len}
+use Rattle.std.proofs.lemmas.List.Sums.{prefix_len-le-length}
+use Rattle.std.specs.List.{position, position_or_len}
+use Rattle.std.specs.Cmp.Lexicographic.{pointwise}
+use borrow.Author.Tests.{lt-ltb, le-ltb, ne_eqb}
 use Rattle.constants.specs.Limits.{max_open}
 use Rattle.form.specs.Ends.{byte_there}
 use Rattle.form.specs.Form.{space, is_key_byte, open_behind, too_deep}
-use Rattle.form.specs.Words.{starts_with, run_length_of, behind_space, key_length}
+use Rattle.form.specs.Words.{run_length_of, behind_space, key_length, starts_with}
 
 module _ (l : List ℕ) (i : ℕ) where
-  pub run_more : i < length l → is_key_byte (get_or l i 0) ≡ true → run_length_of (drop i l) ≡ suc (run_length_of (drop (i + 1) l))
-  unfolding run_length_of
-  run_more h e = rw (add-one i, drop-cons l i 0 h, e)
-
-  pub run_stops : i < length l → is_key_byte (get_or l i 0) ≡ false → run_length_of (drop i l) ≡ 0
-  unfolding run_length_of
-  run_stops h e = rw (drop-cons l i 0 h, e)
-
-  pub run_past : length l ≤ i → run_length_of (drop i l) ≡ 0
-  unfolding run_length_of
-  run_past h = rw (drop_of_length-le l h)
-
   pub deep_here : (n : ℕ) → i < length l → max_open < open_behind n (get_or l i 0) → too_deep n (drop i l) ≡ true
   unfolding too_deep
   deep_here n h e = rw (drop-cons l i 0 h, lt-ltb _ _ e)
@@ -38,42 +29,62 @@ module _ (l : List ℕ) (i : ℕ) where
   unfolding too_deep
   deep_nowhere n h = rw (drop_of_length-le l h)
 
+  pub key_past : length l ≤ i → key_length (drop i l) ≡ None
+  unfolding key_length
+  key_past h = rw (drop_of_length-le l h)
+
   -- a space, and so many bytes of a key behind it
   key_there : get_or l i 0 ≡ space → key_length (drop i l) ≡ behind_space (run_length_of (drop (i + 1) l))
   unfolding key_length
   key_there e = rw (add-one i, drop-cons l i 0 (byte_there l i space e (λ z. omega (arith, z))), e)
 
-  pub no_key_there : get_or l i 0 ≡ space → run_length_of (drop (i + 1) l) ≡ 0 → key_length (drop i l) ≡ 0
+  pub no_key_there : get_or l i 0 ≡ space → run_length_of (drop (i + 1) l) ≡ 0 → key_length (drop i l) ≡ None
   no_key_there e r = key_there e ∙ ap behind_space r
 
-  pub some_key_there : (n : ℕ) → get_or l i 0 ≡ space → n ≡ run_length_of (drop (i + 1) l) → (n ≡ 0 → ⊥) → n + 1 ≡ key_length (drop i l)
+  pub some_key_there : (n : ℕ) → get_or l i 0 ≡ space → n ≡ run_length_of (drop (i + 1) l) → (n ≡ 0 → ⊥) → Some (n + 1) ≡ key_length (drop i l)
   some_key_there zero e r d = absurd (d refl)
-  some_key_there (suc n) e r d = let f : suc n + 1 ≡ suc (suc n) = omega arith in f ∙ sym (key_there e ∙ ap behind_space (sym r))
+  some_key_there (suc n) e r d = let f : suc n + 1 ≡ suc (suc n) = omega arith in ap (λ (k : ℕ). Some k) f ∙ sym (key_there e ∙ ap behind_space (sym r))
 
-  pub key_not_there : (get_or l i 0 ≡ space → ⊥) → key_length (drop i l) ≡ 0
+  pub key_not_there : (get_or l i 0 ≡ space → ⊥) → key_length (drop i l) ≡ None
   unfolding key_length
   key_not_there d = pick (dec_lt i (length l))
     where
-      pick : Dec (i < length l) → key_length (drop i l) ≡ 0
+      pick : Dec (i < length l) → key_length (drop i l) ≡ None
       pick (yes h) = rw (drop-cons l i 0 h, ne_eqb _ _ d)
-      pick (no h) = let k : length l ≤ i = omega arith in rw (drop_of_length-le l k)
+      pick (no h) = key_past (omega arith)
 
-pub starts_short : (w l : List ℕ) → length l < length w → starts_with w l ≡ false
+-- a run reaches to the first byte that is no key's
+pub run_position : (l : List ℕ) → run_length_of l ≡ position_or_len (λ b. not (is_key_byte b)) l
+unfolding run_length_of
+run_position = is_position_or_len run_length_of (λ b. not (is_key_byte b)) refl more
+  where
+    pick : (t : Bool) (n : ℕ) → cond t (suc n) 0 ≡ cond (not t) 0 (1 + n)
+    pick true n = omega arith
+    pick false n = refl
+
+    more : (b : ℕ) (l : List ℕ) → run_length_of (b ∷ l) ≡ cond (not (is_key_byte b)) 0 (1 + run_length_of l)
+    more b l = pick (is_key_byte b) (run_length_of l)
+
+first_or_all : (n m : ℕ) → n ≤ m → unwrap_or (cond (ltb n m) (Some n) None) m ≡ n
+first_or_all n m h = pick (dec_lt n m)
+  where
+    pick : Dec (n < m) → unwrap_or (cond (ltb n m) (Some n) None) m ≡ n
+    pick (yes k) = rw (lt-ltb n m k)
+    pick (no k) = let e : m ≤ n = omega arith in rw (le-ltb n m e) (omega arith)
+
+pub run_reached : (l : List ℕ) (found : Option ℕ) (n : ℕ) → found ≡ position (λ b. not (is_key_byte b)) l → n ≡ unwrap_or found (length l)
+    → n ≡ run_length_of l
+run_reached l found n e f =
+    let p : ℕ → Bool = λ b. not (is_key_byte b) in
+    f ∙ (ap (λ (o : Option ℕ). unwrap_or o (length l)) e
+    ∙ (first_or_all (position_or_len p l) (length l) (prefix_len-le-length (λ b. not (p b)) l) ∙ sym (run_position l)))
+
+-- what std's test of a word at the front says
+same_either_way : (a b : ℕ) → eqb a b ≡ eqb b a
+same_either_way a b = grind arith
+
+pub starts_gives : (w l : List ℕ) → pointwise eqb w (take (length w) l) ≡ starts_with w l
 unfolding starts_with
-starts_short [] l h = absurd (omega arith)
-starts_short (b ∷ w) [] h = refl
-starts_short (b ∷ w) (c ∷ l) h = rw (starts_short w l (omega arith)) (and-false (eqb c b))
-
-module _ (w l : List ℕ) where
-  pub starts_more : (i : ℕ) → i < length w → i < length l → get_or l i 0 ≡ get_or w i 0
-      → starts_with (drop i w) (drop i l) ≡ starts_with (drop (i + 1) w) (drop (i + 1) l)
-  unfolding starts_with
-  starts_more i h k e = rw (add-one i, drop-cons w i 0 h, drop-cons l i 0 k, eq-eqb _ _ e)
-
-  pub starts_not : (i : ℕ) → i < length w → i < length l → (get_or l i 0 ≡ get_or w i 0 → ⊥) → starts_with (drop i w) (drop i l) ≡ false
-  unfolding starts_with
-  starts_not i h k d = rw (drop-cons w i 0 h, drop-cons l i 0 k, ne_eqb _ _ d)
-
-  pub starts_all : (i : ℕ) → length w ≤ i → starts_with (drop i w) (drop i l) ≡ true
-  unfolding starts_with
-  starts_all i h = rw (drop_of_length-le w h)
+starts_gives [] l = refl
+starts_gives (b ∷ w) [] = refl
+starts_gives (b ∷ w) (c ∷ l) = rw (starts_gives w l, same_either_way b c)

@@ -1,6 +1,6 @@
 -- Whether a form stands at the front of some bytes with a given rest behind it can be told: by trying where each part of it can end. It
 -- asks nothing of what a key's bytes are. What it answers is in the types, so that nothing else leans on how it is found.
-use Rattle.std.specs.Prelude.{◌≡◌, refl, Bool, true, false, ℕ, zero, suc, ◌<◌, length, drop}
+use Rattle.std.specs.Prelude.{◌≡◌, refl, Bool, true, false, ℕ, zero, suc, ◌<◌, length, drop, Option, Some, None}
 use Rattle.std.proofs.Common.{sym, ap, ◌∙◌, subst, arith, length-append, true≢false}
 use mathlib.Core.List.{List, [], ◌∷◌, ◌++◌, append_assoc, head-eq_of_cons-eq, tail-eq_of_cons-eq, cons≢nil, List-discrete}
 use Rattle.std.proofs.Math.Decide.{ℕ_discrete}
@@ -148,20 +148,20 @@ pub form_at : (n : ℕ) (rest bytes : List ℕ) → length bytes < n → Dec ((f
 form_at zero rest bytes h = absurd (omega (arith, h))
 form_at (suc n) rest bytes h = pick (word_at bytes) (opened bytes) (λ r l k. form_at n r l (omega (arith, k, h)))
   where
-    of_keys : (o : Opened word.Tiles bytes) → Dec (KeysAt rest (drop (length tiles_front) bytes)) → Dec (FormAt rest bytes)
+    of_keys : (o : Opened (Some word.Tiles) bytes) → Dec (KeysAt rest (drop (length tiles_front) bytes)) → Dec (FormAt rest bytes)
     of_keys o (yes (keys, a)) = yes (tiles keys, keys_form (drop (length tiles_front) bytes) bytes o keys rest a)
     of_keys o (no m) = no (λ s. let b = form_keys (drop (length tiles_front) bytes) bytes o s.0 rest s.1 in m (b.0, b.2))
 
-    of_pair : (verb : Verb) (o : Opened (word.Pair verb) bytes) → Dec (PairAt rest (drop (length (pair_front verb)) bytes))
+    of_pair : (verb : Verb) (o : Opened (Some (word.Pair verb)) bytes) → Dec (PairAt rest (drop (length (pair_front verb)) bytes))
         → Dec (FormAt rest bytes)
     of_pair verb o (yes (p, a)) = yes (pair verb p.0 p.1, pair_form verb (drop (length (pair_front verb)) bytes) bytes o p.0 p.1 rest a)
     of_pair verb o (no m) = no (λ s. let b = form_pair verb (drop (length (pair_front verb)) bytes) bytes o s.0 rest s.1 in m (b.0, b.2))
 
-    pick : (w : Word) → Opened w bytes → ((r l : List ℕ) → length l < length bytes → Dec (FormAt r l)) → Dec (FormAt rest bytes)
-    pick word.Tiles o forms = of_keys o (keys_at (suc (length bytes)) rest (drop (length tiles_front) bytes)
+    pick : (w : Option Word) → Opened w bytes → ((r l : List ℕ) → length l < length bytes → Dec (FormAt r l)) → Dec (FormAt rest bytes)
+    pick (Some word.Tiles) o forms = of_keys o (keys_at (suc (length bytes)) rest (drop (length tiles_front) bytes)
         (omega (arith, ap length (sym o) ∙ length-append tiles_front (drop (length tiles_front) bytes))))
-    pick (word.Pair verb) o forms =
+    pick (Some (word.Pair verb)) o forms =
         let body = drop (length (pair_front verb)) bytes in
         let l = ap length (sym o) ∙ length-append (pair_front verb) body in
         of_pair verb o (pair_at rest body (λ r t k. forms r t (omega (arith, k, l))))
-    pick word.Other o forms = no (λ s. o s.0 rest s.1)
+    pick None o forms = no (λ s. o s.0 rest s.1)

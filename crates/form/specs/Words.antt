@@ -1,5 +1,5 @@
 -- What the front of a form says that it is: the opening bracket, the word and, before two forms, a space. And the bytes of a key.
-use Rattle.std.specs.Prelude.{◌≡◌, refl, Bool, true, false, cond, ◌&&◌, List, [], ◌∷◌, ◌++◌, ℕ, zero, suc, eqb, length, drop}
+use Rattle.std.specs.Prelude.{◌≡◌, refl, Bool, true, false, cond, ◌&&◌, List, [], ◌∷◌, ◌++◌, ℕ, zero, suc, eqb, length, drop, Option, Some, None}
 use Rattle.std.proofs.Common.{sym, ap₂, true≢false, eqb-true, eq-eqb}
 use Rattle.bits.specs.Tests.{and_parts}
 use Rattle.form.specs.Form.{space, opening, is_key_byte, tiles_word, word_of}
@@ -33,23 +33,23 @@ abbrev pub pair_front : Verb → List ℕ
 pair_front verb = opening ∷ (word_of verb ++ (space ∷ []))
 
 -- what the bytes start with
-unfoldable pub word_at : List ℕ → Word
+unfoldable pub word_at : List ℕ → Option Word
 word_at bytes =
-    cond (starts_with tiles_front bytes) word.Tiles
-    (cond (starts_with (pair_front Plus) bytes) (word.Pair Plus)
-    (cond (starts_with (pair_front Both) bytes) (word.Pair Both)
-    (cond (starts_with (pair_front Minus) bytes) (word.Pair Minus) word.Other)))
+    cond (starts_with tiles_front bytes) (Some word.Tiles)
+    (cond (starts_with (pair_front Plus) bytes) (Some (word.Pair Plus))
+    (cond (starts_with (pair_front Both) bytes) (Some (word.Pair Both))
+    (cond (starts_with (pair_front Minus) bytes) (Some (word.Pair Minus)) None)))
 
 -- how many of the first bytes are a key's
 unfoldable pub run_length_of : List ℕ → ℕ
 run_length_of [] = 0
 run_length_of (b ∷ bs) = cond (is_key_byte b) (suc (run_length_of bs)) 0
 
--- how many of the first bytes are a space and a key; 0 where they are not
-abbrev pub behind_space : ℕ → ℕ
-behind_space zero = 0
-behind_space (suc n) = suc (suc n)
+-- how many of the first bytes are a space and a key, if they are
+abbrev pub behind_space : ℕ → Option ℕ
+behind_space zero = None
+behind_space (suc n) = Some (suc (suc n))
 
-unfoldable pub key_length : List ℕ → ℕ
-key_length [] = 0
-key_length (b ∷ bs) = cond (eqb b space) (behind_space (run_length_of bs)) 0
+unfoldable pub key_length : List ℕ → Option ℕ
+key_length [] = None
+key_length (b ∷ bs) = cond (eqb b space) (behind_space (run_length_of bs)) None

@@ -1,5 +1,5 @@
 -- What the code has worked out of a form's parts is the form's area.
-use Rattle.std.specs.Prelude.{◌≡◌, refl, true, false, ℕ, ◌+◌, ◌-◌, ◌≤◌, ◌<◌, eqb, length, take, drop, get_or}
+use Rattle.std.specs.Prelude.{◌≡◌, refl, true, false, ℕ, ◌+◌, ◌-◌, ◌≤◌, ◌<◌, eqb, length, take, drop, get_or, Result, Ok, Err, Option, Some, None, unwrap_or}
 use Rattle.std.proofs.Math.Path.{sym, ap}
 use Rattle.std.proofs.Common.{◌∙◌, arith, length-drop, length-append, take_at, drop_at, drop-drop, lt-ltb, le-ltb, eq-eqb}
 use mathlib.Core.List.{List, [], ◌∷◌, ◌++◌}
@@ -9,15 +9,12 @@ use Rattle.constants.specs.Limits.{max_entries, form_places}
 use Rattle.errors.specs.Answer.{Answer, answer, number_of, ◌else◌}
 use Rattle.errors.specs.Cases.{left}
 use Rattle.errors.specs.Laws.{positive, else_zero}
-use Rattle.errors.specs.declared.Count.{Count}
-use Rattle.errors.specs.declared.Count.TheVariants as count
 use Rattle.errors.specs.declared.Refusal.{Refusal}
 use Rattle.errors.specs.declared.Refusal.TheVariants.{Memory}
 use Rattle.form.specs.Form.{space, closing, Form, tiles, pair, spaced, text}
 use Rattle.form.specs.Ends.{FormEnds}
 use Rattle.form.specs.Front.{FormFirst, KeysFirst, PairFirst}
 use Rattle.form.proofs.OnceLemmas.{one_form}
-use Rattle.form.specs.declared.End.TheVariants.{At, Nowhere}
 use Rattle.form.specs.declared.Verb.{Verb}
 use Rattle.form_area.specs.Area.{is_dash, key_of_run, keys_refusal, key_entry, run_entries, places, operated, area_given, form_area}
 use Rattle.form_area.specs.Calls.{valued, simplify_alike, call_valued, operated_gives, operated_alike}
@@ -31,7 +28,7 @@ use Rattle.tile_list.specs.List.{list_refusal, places_refusal}
 
 -- a refused call has no list
 refused_given : (why : Refusal) (exit : List ℕ) (n : ℕ) (items : List ℕ) → number_of why ≡ n
-    → valued (count.Refused why) exit ≡ answer n [] items
+    → valued (Err why) exit ≡ answer n [] items
 refused_given why exit n items e = let p = positive why in rw (← e, p.1)
 
 refused_first : (why : Refusal) (n m : ℕ) → number_of why ≡ n → number_of why ≡ n else m
@@ -66,7 +63,7 @@ keys_fit runs bytes k = omega (arith, keys_few runs, sym (length-append (spaced 
 
 module _ (runs : List (List ℕ)) where
   pub bad_key_area : (why : Refusal) (exit : List ℕ) → number_of why ≡ keys_refusal runs
-      → valued (count.Refused why) exit ≡ form_area (tiles runs)
+      → valued (Err why) exit ≡ form_area (tiles runs)
   unfolding form_area
   bad_key_area why exit e = refused_given why exit _ _ (refused_first why _ _ e)
 
@@ -75,14 +72,14 @@ module _ (runs : List (List ℕ)) where
     unfolding form_area
     tiles_area = ap (λ (n : ℕ). area_given n (simplify_of (run_entries runs) 0 places)) fine
 
-    pub settled_area : (r : Count) (exit memory : List ℕ) → left r exit ≡ simplify_of (run_entries runs) 0 memory → length memory ≡ form_places
+    pub settled_area : (r : Result ℕ Refusal) (exit memory : List ℕ) → left r exit ≡ simplify_of (run_entries runs) 0 memory → length memory ≡ form_places
         → valued r exit ≡ form_area (tiles runs)
     settled_area r exit memory e h =
         call_valued r exit _ e _ _ (simplify_gives 0 (run_entries runs) memory)
         ∙ (simplify_alike (run_entries runs) memory places (h ∙ sym (length-replicate {A = ℕ} form_places 0)) ∙ sym tiles_area)
 
     pub many_keys_area : (exit : List ℕ) → form_places < length runs → length runs ≤ max_entries
-        → valued (count.Refused Memory) exit ≡ form_area (tiles runs)
+        → valued (Err Memory) exit ≡ form_area (tiles runs)
     unfolding form_area
     many_keys_area exit h k =
         let l = length-map runs (λ (r : List ℕ). key_entry (key_of_run r)) in
@@ -94,16 +91,16 @@ module _ (runs : List (List ℕ)) where
 
 -- the operands, the left one before the right one
 module _ (verb : Verb) (f g : Form) where
-  pub left_refused_area : (why : Refusal) (a exit : List ℕ) → valued (count.Refused why) a ≡ form_area f
-      → valued (count.Refused why) exit ≡ form_area (pair verb f g)
+  pub left_refused_area : (why : Refusal) (a exit : List ℕ) → valued (Err why) a ≡ form_area f
+      → valued (Err why) exit ≡ form_area (pair verb f g)
   unfolding form_area
   left_refused_area why a exit e =
       let n = ap (λ (r : Answer (List ℕ)). r.number) e in
       refused_given why exit _ _ (refused_first why _ _ (refused_first why _ _ n))
 
-  pub right_refused_area : (i : ℕ) (why : Refusal) (a b exit : List ℕ) → valued (count.Counted i) a ≡ form_area f
-      → valued (count.Refused why) b ≡ form_area g
-      → valued (count.Refused why) exit ≡ form_area (pair verb f g)
+  pub right_refused_area : (i : ℕ) (why : Refusal) (a b exit : List ℕ) → valued (Ok i) a ≡ form_area f
+      → valued (Err why) b ≡ form_area g
+      → valued (Err why) exit ≡ form_area (pair verb f g)
   unfolding form_area
   right_refused_area i why a b exit e h =
       let n = ap (λ (r : Answer (List ℕ)). r.number) e in
@@ -111,8 +108,8 @@ module _ (verb : Verb) (f g : Form) where
       let l : (form_area f).number else (form_area g).number ≡ number_of why = rw (← n) (sym m) in
       refused_given why exit _ _ (refused_first why _ _ (sym l))
 
-  pub operated_area : (i j : ℕ) (a b : List ℕ) → valued (count.Counted i) a ≡ form_area f → valued (count.Counted j) b ≡ form_area g
-      → (r : Count) (exit memory : List ℕ) → left r exit ≡ operated verb (take i a) (take j b) memory → length memory ≡ form_places
+  pub operated_area : (i j : ℕ) (a b : List ℕ) → valued (Ok i) a ≡ form_area f → valued (Ok j) b ≡ form_area g
+      → (r : Result ℕ Refusal) (exit memory : List ℕ) → left r exit ≡ operated verb (take i a) (take j b) memory → length memory ≡ form_places
       → valued r exit ≡ form_area (pair verb f g)
   unfolding form_area
   operated_area i j a b e h r exit memory l k =
@@ -144,14 +141,19 @@ module _ (f g : Form) (body : List ℕ) (p : PairFirst f g [] body) where
       rw right_behind (take_at (text g) (closing ∷ []) (length body - 1 - (n + 1)) e)
 
 -- the form at the front of a pair is its left one
-pub left_length : (n : ℕ) (body : List ℕ) → FormEnds (At n) body → (f g : Form) → PairFirst f g [] body → n ≡ length (text f)
+pub left_length : (n : ℕ) (body : List ℕ) → FormEnds (Some n) body → (f g : Form) → PairFirst f g [] body → n ≡ length (text f)
 left_length n body e f g p =
     let first : FormFirst f (space ∷ (text g ++ closing ∷ [])) body = record { formed = p.formed_left; spelled = p.spelled } in
     let rest = ap length (one_form f e.1.0 _ (drop n body) body first e.1.1).1 in
     omega (arith, e.0, rest, length-drop n body, ap length (sym p.spelled) ∙ length-append (text f) (space ∷ (text g ++ closing ∷ [])))
 
-pub left_there : (body : List ℕ) → FormEnds Nowhere body → (f g : Form) → PairFirst f g [] body → ⊥
+pub left_there : (body : List ℕ) → FormEnds None body → (f g : Form) → PairFirst f g [] body → ⊥
 left_there body never f g p = never f (space ∷ (text g ++ closing ∷ [])) (record { formed = p.formed_left; spelled = p.spelled })
+
+pub left_taken : (end : Option ℕ) (n : ℕ) (body : List ℕ) → FormEnds end body → n ≡ unwrap_or end 0 → (f g : Form) → PairFirst f g [] body
+    → n ≡ length (text f)
+left_taken (Some m) n body e u f g p = u ∙ left_length m body e f g p
+left_taken None n body e u f g p = absurd (left_there body e f g p)
 
 pub no_dash : (run : List ℕ) → (length run ≡ 1 → ⊥) → is_dash run ≡ false
 no_dash [] d = refl

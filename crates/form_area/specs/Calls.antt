@@ -1,12 +1,12 @@
 -- What a call on lists answers does not lean on what the lent memory held before, only on its length.
-use Rattle.std.specs.Prelude.{◌≡◌, refl, List, [], ◌++◌, ℕ, zero, suc, ◌≤◌, length, take}
+use Rattle.errors.specs.declared.Refusal.{Refusal}
+use Rattle.std.specs.Prelude.{◌≡◌, refl, List, [], ◌++◌, ℕ, zero, suc, ◌≤◌, length, take, Result}
 use Rattle.std.proofs.Common.{sym, ap, ap₂, ◌∙◌, subst}
 use Rattle.area.specs.Area.{pair_refusal, pair_places_refusal, union_entries, common_entries, difference_entries}
 use Rattle.errors.specs.Answer.{Answer, answer, Lent, short, ◌else◌}
-use Rattle.errors.specs.Cases.{count_case, left}
+use Rattle.errors.specs.Cases.{number_case, left}
 use Rattle.errors.specs.Gives.{answer_of, Gives}
 use Rattle.errors.proofs.GivesLemmas.{lent_gives}
-use Rattle.errors.specs.declared.Count.{Count}
 use Rattle.form.specs.declared.Verb.{Verb}
 use Rattle.form.specs.declared.Verb.TheVariants.{Plus, Both, Minus}
 use Rattle.form_area.specs.Area.{operated, area_given}
@@ -18,11 +18,11 @@ use Rattle.tile_set.specs.Set.{simplified}
 use Rattle.constants.specs.Limits.{max_zoom}
 
 -- the list that a call left at the front of its memory
-abbrev pub valued : Count → List ℕ → Answer (List ℕ)
-valued r memory = record { number = (count_case r).number; value = take (count_case r).value memory }
+abbrev pub valued : Result ℕ Refusal → List ℕ → Answer (List ℕ)
+valued r memory = record { number = (number_case r).number; value = take (number_case r).value memory }
 
-abbrev pub CountFits : Count → List ℕ → Type 0
-CountFits r memory = (count_case r).value ≤ length memory
+abbrev pub CountFits : Result ℕ Refusal → List ℕ → Type 0
+CountFits r memory = (number_case r).value ≤ length memory
 
 -- two calls that give the same, after the same refusals before them
 same_given : (refusal : ℕ) (r s : Lent ℕ) (n : ℕ) (items : List ℕ) → Gives r n items → Gives s n items
@@ -38,7 +38,7 @@ given_items r n items a = ap₂ (λ (k : ℕ) (l : List ℕ). answer k [] l) a.n
     twice (suc n) items = refl
 
 -- a call's answer as the code has it
-module _ (r : Count) (exit : List ℕ) (c : Lent ℕ) (e : left r exit ≡ c) (n : ℕ) (items : List ℕ) (a : Gives c n items) where
+module _ (r : Result ℕ Refusal) (exit : List ℕ) (c : Lent ℕ) (e : left r exit ≡ c) (n : ℕ) (items : List ℕ) (a : Gives c n items) where
   pub call_within : CountFits r exit
   call_within = rw (ap (λ (l : Lent ℕ). l.value) e, ap (λ (l : Lent ℕ). l.memory) e) a.within
 

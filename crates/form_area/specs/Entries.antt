@@ -1,12 +1,8 @@
 -- The keys of `tiles`, one after the other: refused by the first bad one, else entries in the order of the keys.
-use Rattle.std.specs.Prelude.{◌≡◌, refl, true, List, [], ◌∷◌, ◌++◌, ℕ, zero, suc, ◌+◌, ◌-◌, ◌≤◌, ◌<◌, length, take, drop, set}
+use Rattle.std.specs.Prelude.{◌≡◌, refl, true, List, [], ◌∷◌, ◌++◌, ℕ, zero, suc, ◌+◌, ◌-◌, ◌≤◌, ◌<◌, length, take, drop, set, Some, None, Result, Ok, Err, ⊤}
 use Rattle.std.proofs.Common.{sym, ap, subst, ◌∙◌, append_assoc, append-nil, add-one, arith, length-append, length-drop, length-set, take-suc-set, drop-drop}
 use Rattle.std.proofs.lemmas.List.{map-append}
 use Rattle.errors.specs.Answer.{number_of, ◌else◌}
-use Rattle.errors.specs.declared.Check.{Check}
-use Rattle.errors.specs.declared.Check.TheVariants as check
-use Rattle.errors.specs.declared.Count.{Count}
-use Rattle.errors.specs.declared.Count.TheVariants as count
 use Rattle.errors.specs.declared.Refusal.{Refusal}
 use Rattle.errors.specs.Laws.{stands, answer_found}
 use Rattle.bits.specs.Tests.{and_parts}
@@ -23,15 +19,15 @@ use Rattle.tile.specs.OnMap.{OnMap, no_tile_of}
 use Rattle.tile.specs.declared.Tile.{Tile}
 
 -- what is known of the keys when all are entered: none is bad, their count, and the entries if there were places for all
-abbrev pub Entered : Count → List (List ℕ) → List ℕ → Type 0
-Entered (count.Counted n) runs entries =
+abbrev pub Entered : Result ℕ Refusal → List (List ℕ) → List ℕ → Type 0
+Entered (Ok n) runs entries =
     (keys_refusal runs ≡ 0) × (n ≡ length runs) × (n ≤ length entries → take n entries ≡ run_entries runs)
-Entered (count.Refused why) runs entries = number_of why ≡ keys_refusal runs
+Entered (Err why) runs entries = number_of why ≡ keys_refusal runs
 
 -- one key more: bad, or its entry in place n if there is one
-abbrev pub OneEntered : Check → List ℕ → ℕ → List ℕ → List ℕ → Type 0
-OneEntered check.Fine run n before after = (key_refusal (key_of_run run) ≡ 0) × (after ≡ set before n (key_entry (key_of_run run)))
-OneEntered (check.Refused why) run n before after = number_of why ≡ key_refusal (key_of_run run)
+abbrev pub OneEntered : Result ⊤ Refusal → List ℕ → ℕ → List ℕ → List ℕ → Type 0
+OneEntered (Ok tt) run n before after = (key_refusal (key_of_run run) ≡ 0) × (after ≡ set before n (key_entry (key_of_run run)))
+OneEntered (Err why) run n before after = number_of why ≡ key_refusal (key_of_run run)
 
 -- no bad key among the first ones
 pub keys_refusal_append : (done runs : List (List ℕ)) → keys_refusal done ≡ 0 → keys_refusal (done ++ runs) ≡ keys_refusal runs
@@ -82,7 +78,7 @@ pub record NextKey (at : ℕ) (body : List ℕ) (rest : List (List ℕ)) : Type 
   pub run : List ℕ
   pub more : List (List ℕ)
   pub split : rest ≡ run ∷ more
-  pub long : key_length (drop at body) ≡ suc (length run)
+  pub long : key_length (drop at body) ≡ Some (suc (length run))
   pub part : take (length run) (drop (at + 1) body) ≡ run
   pub within : at + suc (length run) < length body
   pub left : KeysFirst more [] (drop (at + suc (length run)) body)
@@ -98,11 +94,20 @@ tail_runs : (run : List ℕ) (runs : List (List ℕ)) → all_runs (run ∷ runs
 unfolding all_runs
 tail_runs run runs e = (and_parts (is_run run) (all_runs runs) e).1
 
+none_is_some : {n : ℕ} → None ≡ Some n → ⊥
+none_is_some e = cc
+
+same_length : (n m : ℕ) → Some n ≡ Some m → n ≡ m
+same_length n m e = cc
+
 module _ (at : ℕ) (body : List ℕ) where
-  pub next_key : (rest : List (List ℕ)) → KeysFirst rest [] (drop at body) → at + 1 < length body → NextKey at body rest
-  next_key [] k h =
-      absurd (omega (arith, h, length-drop at body, ap length (only_closing [] (drop at body) k)))
-  next_key (run ∷ more) k h =
+  no_key_at_end : KeysFirst [] [] (drop at body) → key_length (drop at body) ≡ None
+  unfolding key_length
+  no_key_at_end k = rw (← only_closing [] (drop at body) k)
+
+  pub next_key : (n : ℕ) (rest : List (List ℕ)) → KeysFirst rest [] (drop at body) → key_length (drop at body) ≡ Some n → NextKey at body rest
+  next_key n [] k e = absurd (none_is_some (sym (no_key_at_end k) ∙ e))
+  next_key n (run ∷ more) k h =
       let first = keys_first_key run more [] (drop at body) k in
       let long = first_key run (spaced more ++ closing ∷ []) (drop at body) first in
       let here = one_key run (take (length run) (drop 1 (drop at body))) (spaced more ++ closing ∷ [])
@@ -116,14 +121,15 @@ module _ (at : ℕ) (body : List ℕ) where
         split = refl;
         long = long;
         part = ap (λ (l : List ℕ). take (length run) l) (sym e) ∙ sym here.0;
-        within = omega (arith, keys_long (run ∷ more) (drop at body) k, spaced_long run more, length-drop at body, h);
+        within = omega (arith, keys_long (run ∷ more) (drop at body) k, spaced_long run more, length-drop at body);
         left = record { runs = tail_runs run more k.runs; spelled = here.1 ∙ f };
       }
 
-  no_next_key : (rest : List (List ℕ)) → KeysFirst rest [] (drop at body) → length body ≤ at + 1 → rest ≡ []
+  no_next_key : (rest : List (List ℕ)) → KeysFirst rest [] (drop at body) → key_length (drop at body) ≡ None → rest ≡ []
   no_next_key [] k h = refl
   no_next_key (run ∷ more) k h =
-      absurd (omega (arith, keys_long (run ∷ more) (drop at body) k, spaced_long run more, length-drop at body, h))
+      let first = keys_first_key run more [] (drop at body) k in
+      absurd (none_is_some (sym h ∙ first_key run (spaced more ++ closing ∷ []) (drop at body) first))
 
 one_fine : (run : List ℕ) → key_refusal (key_of_run run) ≡ 0 → keys_refusal (run ∷ []) ≡ 0
 unfolding keys_refusal
@@ -145,7 +151,7 @@ module _ (at n : ℕ) (entries body : List ℕ) (runs : List (List ℕ)) (e : En
   all_again : (k : NextKey at body e.rest) → e.done ++ k.run ∷ k.more ≡ runs
   all_again k = ap (λ (l : List (List ℕ)). e.done ++ l) (sym k.split) ∙ e.all
 
-  pub one_entered : (k : NextKey at body e.rest) (after : List ℕ) → OneEntered check.Fine k.run n entries after
+  pub one_entered : (k : NextKey at body e.rest) (after : List ℕ) → OneEntered (Ok tt) k.run n entries after
       → Entering (at + suc (length k.run)) (n + 1) after body runs
   one_entered k after (f, g) = record {
     done = e.done ++ (k.run ∷ []);
@@ -160,13 +166,13 @@ module _ (at n : ℕ) (entries body : List ℕ) (runs : List (List ℕ)) (e : En
   }
 
   pub bad_entered : (k : NextKey at body e.rest) (why : Refusal) (after : List ℕ)
-      → OneEntered (check.Refused why) k.run n entries after
-      → Entered (count.Refused why) runs after
+      → OneEntered (Err why) k.run n entries after
+      → Entered (Err why) runs after
   bad_entered k why after f =
       sym (sym (ap keys_refusal (all_again k))
       ∙ (keys_refusal_append e.done (k.run ∷ k.more) e.fine ∙ one_bad why k.run k.more f))
 
-  pub all_entered : length body ≤ at + 1 → Entered (count.Counted n) runs entries
+  pub all_entered : key_length (drop at body) ≡ None → Entered (Ok n) runs entries
   all_entered h =
       let none = no_next_key at body e.rest e.left h in
       let same : e.done ≡ runs = sym (append-nil e.done) ∙ (ap (λ (l : List (List ℕ)). e.done ++ l) (sym none) ∙ e.all) in
@@ -176,37 +182,36 @@ module _ (at n : ℕ) (entries body : List ℕ) (runs : List (List ℕ)) (e : En
 abbrev pub Begun : ℕ → ℕ → List ℕ → List ℕ → Type 0
 Begun at n entries body = (runs : List (List ℕ)) × (KeysFirst runs [] body) × Entering at n entries body runs
 
-pub whichever : (r : Count) (entries body : List ℕ) (runs : List (List ℕ)) → KeysFirst runs [] body → Entered r runs entries
+pub whichever : (r : Result ℕ Refusal) (entries body : List ℕ) (runs : List (List ℕ)) → KeysFirst runs [] body → Entered r runs entries
     → (others : List (List ℕ)) → KeysFirst others [] body → Entered r others entries
 whichever r entries body runs k e others l = subst (λ (x : List (List ℕ)). Entered r x entries) (one_keys runs others [] [] body k l).0 e
 
-module _ (at n : ℕ) (entries body : List ℕ) (b : Begun at n entries body) (h : at + 1 < length body) where
+module _ (at n : ℕ) (entries body : List ℕ) (b : Begun at n entries body) (r : ℕ) (e : key_length (drop at body) ≡ Some r) where
   pub coming : NextKey at body b.2.rest
-  coming = next_key at body b.2.rest b.2.left h
+  coming = next_key at body r b.2.rest b.2.left e
 
-  module _ (r : ℕ) (e : r ≡ key_length (drop at body)) where
-    pub coming_length : r ≡ suc (length coming.run)
-    coming_length = e ∙ coming.long
+  pub coming_length : r ≡ suc (length coming.run)
+  coming_length = same_length _ _ (sym e ∙ coming.long)
 
-    coming_part : take (at + r - (at + 1)) (drop (at + 1) body) ≡ coming.run
-    coming_part = let f : at + r - (at + 1) ≡ length coming.run = omega (arith, coming_length) in rw f coming.part
+  coming_part : take (at + r - (at + 1)) (drop (at + 1) body) ≡ coming.run
+  coming_part = let f : at + r - (at + 1) ≡ length coming.run = omega (arith, coming_length) in rw f coming.part
 
-    pub key_begun : (c : Check) (after : List ℕ) → OneEntered c (take (at + r - (at + 1)) (drop (at + 1) body)) n entries after
-        → c ≡ check.Fine
-        → Begun (at + r) (n + 1) after body
-    key_begun c after k f =
-        let l = subst (λ (x : Check). OneEntered x coming.run n entries after) f
-        (subst (λ (x : List ℕ). OneEntered c x n entries after) coming_part k) in (
-          b.0,
-          b.1,
-          subst (λ (x : ℕ). Entering (at + x) (n + 1) after body b.0) (sym coming_length)
-              (one_entered at n entries body b.0 b.2 coming after l),
-        )
+  pub key_begun : (c : Result ⊤ Refusal) (after : List ℕ) → OneEntered c (take (at + r - (at + 1)) (drop (at + 1) body)) n entries after
+      → c ≡ (Ok tt)
+      → Begun (at + r) (n + 1) after body
+  key_begun c after k f =
+      let l = subst (λ (x : Result ⊤ Refusal). OneEntered x coming.run n entries after) f
+      (subst (λ (x : List ℕ). OneEntered c x n entries after) coming_part k) in (
+        b.0,
+        b.1,
+        subst (λ (x : ℕ). Entering (at + x) (n + 1) after body b.0) (sym coming_length)
+            (one_entered at n entries body b.0 b.2 coming after l),
+      )
 
-    pub key_refused : (c : Check) (why : Refusal) (after : List ℕ)
-        → OneEntered c (take (at + r - (at + 1)) (drop (at + 1) body)) n entries after → c ≡ check.Refused why
-        → (others : List (List ℕ)) → KeysFirst others [] body → Entered (count.Refused why) others after
-    key_refused c why after k f =
-        let l = subst (λ (x : Check). OneEntered x coming.run n entries after) f
-        (subst (λ (x : List ℕ). OneEntered c x n entries after) coming_part k) in
-        whichever (count.Refused why) after body b.0 b.1 (bad_entered at n entries body b.0 b.2 coming why after l)
+  pub key_refused : (c : Result ⊤ Refusal) (why : Refusal) (after : List ℕ)
+      → OneEntered c (take (at + r - (at + 1)) (drop (at + 1) body)) n entries after → c ≡ Err why
+      → (others : List (List ℕ)) → KeysFirst others [] body → Entered (Err why) others after
+  key_refused c why after k f =
+      let l = subst (λ (x : Result ⊤ Refusal). OneEntered x coming.run n entries after) f
+      (subst (λ (x : List ℕ). OneEntered c x n entries after) coming_part k) in
+      whichever (Err why) after body b.0 b.1 (bad_entered at n entries body b.0 b.2 coming why after l)

@@ -12,55 +12,50 @@ ghost use Rattle.quadkey.specs.Key.{key_tile};
 ghost use Rattle.tile.specs.OnMap.{tile_case};
 
 use constants::FORM_PLACES;
-use errors::{Check, Count, Refusal};
-use form::{End, Verb, Word};
-use tile::{OptionU8, TileAnswer};
+use errors::Refusal;
+use form::{Verb, Word};
+use tile::Tile;
 
 // The form's settled list, in lent memory.
-pub fn area(line: &[u8], out: &mut [u64]) -> Count
+pub fn area(line: &[u8], out: &mut [u64]) -> Result<usize, Refusal>
     ensures { left result out.new ≡ area_written line.now out.old }
 {
-    match form::check(line) {
-        Check::Fine => {
-            let mut list = [0u64; FORM_PLACES];
-            match value(line, &mut list) {
-                Count::Counted(n) => written(&list[..n], out),
-                Count::Refused(why) => Count::Refused(why),
-            }
-        }
-        Check::Refused(why) => Count::Refused(why),
-    }
+    form::check(line)?;
+    // A list of as many places as a form may need, and a count: no heap is a rule of the project.
+    let mut list = [0u64; FORM_PLACES];
+    let n = value(line, &mut list)?;
+    written(&list[..n], out)
 }
 
-fn written(list: &[u64], out: &mut [u64]) -> Count
+fn written(list: &[u64], out: &mut [u64]) -> Result<usize, Refusal>
     ensures { left result out.new ≡ the-written-Answer 0 list.now out.old }
 {
     let n = list.len();
     if out.len() < n {
-        return Count::Refused(Refusal::Memory);
+        return Err(Refusal::Memory);
     }
-    sort::copy(list, &mut out[..n]);
-    Count::Counted(n)
+    out[..n].copy_from_slice(list);
+    Ok(n)
 }
 
 // The settled list of the form that takes all of the line.
 #[cycle(pair_value)]
-fn value(line: &[u8], list: &mut [u64]) -> Count
+fn value(line: &[u8], list: &mut [u64]) -> Result<usize, Refusal>
     requires line_len_bound { length line.now ≤ max_line }
     requires spelled { Spelled line.now }
     requires list_len { length list.old ≡ form_places }
     ensures { OfForm line.now result list.new }
 {
     match form::word_at(line) {
-        Word::Tiles => tiles(&line[form::TILES_FRONT..], list),
-        Word::Pair(verb) => pair(verb, &line[form::pair_front(verb)..], list),
-        Word::Other => Count::Refused(Refusal::NoForm),
+        Some(Word::Tiles) => tiles(&line[form::TILES_FRONT..], list),
+        Some(Word::Pair(verb)) => pair(verb, &line[form::pair_front(verb)..], list),
+        None => Err(Refusal::NoForm),
     }
 }
 
 // Of two forms, which are written with a space between them and the closing bracket behind them.
 #[cycle(pair_value)]
-fn pair(verb: Verb, body: &[u8], list: &mut [u64]) -> Count
+fn pair(verb: Verb, body: &[u8], list: &mut [u64]) -> Result<usize, Refusal>
     requires body_len_bound { length body.now ≤ max_line }
     requires pair_spelled { PairSpelled body.now }
     requires list_len { length list.old ≡ form_places }
@@ -69,13 +64,9 @@ fn pair(verb: Verb, body: &[u8], list: &mut [u64]) -> Count
     let n = left_length(body);
     let mut a = [0u64; FORM_PLACES];
     let mut b = [0u64; FORM_PLACES];
-    match value(&body[..n], &mut a) {
-        Count::Counted(i) => match value(&body[n + 1..body.len() - 1], &mut b) {
-            Count::Counted(j) => operate(verb, &a[..i], &b[..j], list),
-            Count::Refused(why) => Count::Refused(why),
-        },
-        Count::Refused(why) => Count::Refused(why),
-    }
+    let i = value(&body[..n], &mut a)?;
+    let j = value(&body[n + 1..body.len() - 1], &mut b)?;
+    operate(verb, &a[..i], &b[..j], list)
 }
 
 // How many bytes the left one of two forms takes.
@@ -83,13 +74,10 @@ fn left_length(body: &[u8]) -> usize
     requires { PairSpelled body.now }
     ensures { LeftLength body.now result }
 {
-    match form::form_end(body) {
-        End::At(n) => n,
-        End::Nowhere => 0,
-    }
+    form::form_end(body).unwrap_or(0)
 }
 
-fn operate(verb: Verb, a: &[u64], b: &[u64], list: &mut [u64]) -> Count
+fn operate(verb: Verb, a: &[u64], b: &[u64], list: &mut [u64]) -> Result<usize, Refusal>
     ensures { left result list.new ≡ operated verb a.now b.now list.old }
 {
     match verb {
@@ -100,64 +88,54 @@ fn operate(verb: Verb, a: &[u64], b: &[u64], list: &mut [u64]) -> Count
 }
 
 // The settled list of keys, which are written with a space before each and the closing bracket behind them.
-fn tiles(body: &[u8], list: &mut [u64]) -> Count
+fn tiles(body: &[u8], list: &mut [u64]) -> Result<usize, Refusal>
     requires body_len_bound { length body.now ≤ max_line }
     requires keys_spelled { KeysSpelled body.now }
     requires list_len { length list.old ≡ form_places }
     ensures { OfKeys body.now result list.new }
 {
     let mut entries = [0u64; FORM_PLACES];
-    match enter(body, &mut entries) {
-        Count::Counted(n) => {
-            if n > FORM_PLACES {
-                return Count::Refused(Refusal::Memory);
-            }
-            merge::simplify(&entries[..n], OptionU8::Some(0), list)
-        }
-        Count::Refused(why) => Count::Refused(why),
+    let n = enter(body, &mut entries)?;
+    if n > FORM_PLACES {
+        return Err(Refusal::Memory);
     }
+    merge::simplify(&entries[..n], Some(0), list)
 }
 
 // The entries of the keys, as far as there are places, and how many keys there are.
-fn enter(body: &[u8], entries: &mut [u64]) -> Count
+fn enter(body: &[u8], entries: &mut [u64]) -> Result<usize, Refusal>
     requires { KeysSpelled body.now }
     ensures { AllEntered body.now result entries.new }
 {
+    // A `while`: a key's length decides the next place. `n` also counts the keys that have no place, so it is no index of `entries`.
     let mut at = 0;
     let mut n = 0;
-    while at + 1 < body.len() {
-        let next = at + form::key_length(body, at);
-        match keep(&body[at + 1..next], n, entries) {
-            Check::Fine => {}
-            Check::Refused(why) => return Count::Refused(why),
-        }
+    while let Some(length) = form::key_length(body, at) {
+        let next = at + length;
+        keep(&body[at + 1..next], n, entries)?;
         n += 1;
         at = next;
     }
-    Count::Counted(n)
+    Ok(n)
 }
 
 // The entry of the n-th key goes to its place, if there is one.
-fn keep(run: &[u8], n: usize, entries: &mut [u64]) -> Check
+fn keep(run: &[u8], n: usize, entries: &mut [u64]) -> Result<(), Refusal>
     ensures { OneEntered result run.now n entries.old entries.new }
 {
-    match tile_of(run) {
-        TileAnswer::Found(t) => {
-            if n < entries.len() {
-                entries[n] = ids::entry(t.x, t.y, t.z);
-            }
-            Check::Fine
-        }
-        TileAnswer::Refused(why) => Check::Refused(why),
+    let t = tile_of(run)?;
+    if n < entries.len() {
+        entries[n] = ids::entry(t.x, t.y, t.z);
     }
+    Ok(())
 }
 
 // The tile of a key. `-` stands for the empty key.
-fn tile_of(run: &[u8]) -> TileAnswer
+fn tile_of(run: &[u8]) -> Result<Tile, Refusal>
     ensures { tile_case result ≡ key_tile (key_of_run run.now) }
 {
     if is_dash(run) {
-        return key_reader::quadkey2xyz(&run[..0]);
+        return key_reader::quadkey2xyz(b"");
     }
     key_reader::quadkey2xyz(run)
 }
@@ -165,8 +143,5 @@ fn tile_of(run: &[u8]) -> TileAnswer
 fn is_dash(run: &[u8]) -> bool
     ensures { result ≡ is_dash run.now }
 {
-    if run.len() != 1 {
-        return false;
-    }
-    run[0] == b'-'
+    matches!(run, [b'-'])
 }

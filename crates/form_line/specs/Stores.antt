@@ -1,13 +1,12 @@
 -- Bytes stored one after the other, from a place of the memory on.
-use Rattle.std.specs.Prelude.{◌≡◌, refl, Bool, true, false, List, [], ◌∷◌, ◌++◌, ℕ, suc, ◌+◌, ◌-◌, ◌≤◌, ◌<◌, ltb, length, take, drop, get_or, set}
-use Rattle.std.proofs.Common.{sym, ap, ◌∙◌, append_assoc, append-nil, zero-add, add-one, arith, length-append, length-drop, drop_of_length-le, take-suc, length-take-le, drop-drop, ltb-true}
+use Rattle.std.specs.Prelude.{◌≡◌, refl, Bool, true, false, List, [], ◌∷◌, ◌++◌, ℕ, suc, ◌+◌, ◌-◌, ◌≤◌, ◌<◌, ltb, length, take, drop, set, Ok, Err}
+use Rattle.std.proofs.Common.{sym, ap, ◌∙◌, append_assoc, append-nil, zero-add, arith, length-append, length-drop, drop_of_length-le, drop-drop, ltb-true}
 use Rattle.std.proofs.lemmas.List.Edits.{sets, sets-eq}
-use Rattle.std.proofs.Math.Seq.{length-sets, take-length}
+use Rattle.std.proofs.Math.Seq.{length-sets}
 use Rattle.errors.specs.Answer.{Lent, lent, written, ◌when◌}
 use Rattle.errors.specs.Cases.{left}
 use Rattle.errors.specs.Laws.{never_zero}
 use Rattle.errors.specs.Memory.{written_done}
-use Rattle.errors.specs.declared.Count.TheVariants as count
 use Rattle.errors.specs.declared.Refusal.{Refusal}
 use Rattle.form.specs.Ends.{rest_part}
 
@@ -71,48 +70,38 @@ pub stored_front : {text : List ℕ} {end : ℕ} {before after : List ℕ} → S
     → after ≡ text ++ drop (length text) before
 stored_front {text} {end} {before} {after} s h = s.memory ∙ (sets-eq text before 0 (omega arith) ∙ rw (zero-add (length text)))
 
--- one byte more of a text
-pub byte_stored : (text : List ℕ) (at i : ℕ) {before between : List ℕ} → i < length text → Stored (take i text) at (at + i) before between
-    → Stored (take (i + 1) text) at (at + (i + 1)) before (set between (at + i) (get_or text i 0))
-byte_stored text at i {before} {between} h s =
-    let t = stored_behind s (one_stored (get_or text i 0) (at + i) between) in
-    record { behind = omega (arith, length-take-le (i + 1) text (omega arith)); memory = rw (add-one i, take-suc text i 0 h) t.memory }
-
-pub stored_all : (text : List ℕ) {at end : ℕ} (i : ℕ) {before after : List ℕ} → i ≡ length text → Stored (take i text) at end before after
-    → Stored text at end before after
-stored_all text i e s = stored_same (rw (e, take-length text)) s
-
--- a call that stored its text from the front on
-pub stored_written : {text : List ℕ} {end k : ℕ} {before after : List ℕ} → Stored text 0 end before after → k ≡ length text
+-- a call that stored its text from the front on, where the memory came `back` as it was left
+pub stored_written : {text : List ℕ} {end k : ℕ} {before after back : List ℕ} → Stored text 0 end before after → k ≡ length text
     → length text ≤ length before
-    → left (count.Counted k) after ≡ written 0 text before
-stored_written {text} {end} {k} {before} {after} s e h = written_done text before after refl h e (stored_front s h)
+    → back ≡ after
+    → left (Ok k) back ≡ written 0 text before
+stored_written {text} {end} {k} {before} {after} {back} s e h b = written_done text before back refl h e (b ∙ stored_front s h)
 
 -- what a call that writes a list says, where nothing but its memory can refuse it
 module _ {k : ℕ} (items memory after : List ℕ) (fine : k ≡ 0) where
-  pub written_counted : {n : ℕ} → left (count.Counted n) after ≡ written k items memory
+  pub written_counted : {n : ℕ} → left (Ok n) after ≡ written k items memory
       → (n ≡ length items) × (after ≡ items ++ drop (length items) memory)
   written_counted {n} e = pick (ltb (length memory) (length items)) (rw fine at e)
     where
-      pick : (b : Bool) → left (count.Counted n) after ≡ lent (12 when b) items memory
+      pick : (b : Bool) → left (Ok n) after ≡ lent (12 when b) items memory
           → (n ≡ length items) × (after ≡ items ++ drop (length items) memory)
       pick true q = let z : ◌≡◌ {A = ℕ} 0 12 = ap (λ (l : Lent ℕ). l.number) q in absurd (omega arith)
       pick false q = (ap (λ (l : Lent ℕ). l.value) q, ap (λ (l : Lent ℕ). l.memory) q)
 
-  pub written_within : {n : ℕ} → left (count.Counted n) after ≡ written k items memory → n ≤ length after
+  pub written_within : {n : ℕ} → left (Ok n) after ≡ written k items memory → n ≤ length after
   written_within e = let w = written_counted e in omega (arith, w.0, ap length w.1 ∙ length-append items (drop (length items) memory))
 
-  pub written_not : (why : Refusal) → left (count.Refused why) after ≡ written k items memory → length memory < length items
+  pub written_not : (why : Refusal) → left (Err why) after ≡ written k items memory → length memory < length items
   written_not why e = pick (ltb (length memory) (length items)) refl (rw fine at e)
     where
-      pick : (b : Bool) → ltb (length memory) (length items) ≡ b → left (count.Refused why) after ≡ lent (12 when b) items memory
+      pick : (b : Bool) → ltb (length memory) (length items) ≡ b → left (Err why) after ≡ lent (12 when b) items memory
           → length memory < length items
       pick true p q = ltb-true _ _ p
       pick false p q = absurd (never_zero why (ap (λ (l : Lent ℕ). l.number) q))
 
-  pub refused_kept : (why : Refusal) → left (count.Refused why) after ≡ written k items memory → after ≡ memory
+  pub refused_kept : (why : Refusal) → left (Err why) after ≡ written k items memory → after ≡ memory
   refused_kept why e = pick (ltb (length memory) (length items)) (rw fine at e)
     where
-      pick : (b : Bool) → left (count.Refused why) after ≡ lent (12 when b) items memory → after ≡ memory
+      pick : (b : Bool) → left (Err why) after ≡ lent (12 when b) items memory → after ≡ memory
       pick true q = ap (λ (l : Lent ℕ). l.memory) q
       pick false q = absurd (never_zero why (ap (λ (l : Lent ℕ). l.number) q))

@@ -1,5 +1,5 @@
 -- The printed parts of an answer: what they are for each entry, and how long.
-use Rattle.std.specs.Prelude.{◌≡◌, refl, true, List, [], ◌∷◌, ◌++◌, map, ℕ, zero, suc, ◌+◌, ◌*◌, ◌/◌, ◌%◌, ◌≤◌, ◌<◌, length, take, drop, get_or, set}
+use Rattle.std.specs.Prelude.{◌≡◌, refl, true, List, [], ◌∷◌, ◌++◌, map, ℕ, zero, suc, ◌+◌, ◌*◌, ◌/◌, ◌%◌, ◌≤◌, ◌<◌, length, take, drop, get_or, set, Result, Ok, Err}
 use Rattle.std.proofs.Common.{sym, ap, ◌∙◌, append_assoc, append-nil, add-one, arith, length-append, take-append-drop, take-suc, eqb-true}
 use Rattle.std.proofs.lemmas.List.{map-append}
 use Rattle.bits.specs.Tests.{all_of, all_at, and_parts}
@@ -10,21 +10,19 @@ use Rattle.form.specs.Form.{space, opening, closing, spaced}
 use Rattle.form_line.specs.Decimal.{decimal, decimal_digit, decimal_more}
 use Rattle.form_line.specs.Few.{Fits, IsEntry}
 use Rattle.form_line.specs.Line.{key_shown, entry_shown, keys_text, list_text, refusal_text}
-use Rattle.form_line.specs.Stores.{Stored, one_stored, stored_behind, stored_same}
+use Rattle.form_line.specs.Stores.{Stored, stored_behind, stored_same}
 use Rattle.ids.specs.Entry.{entry_tile, entry_refusal, entry_tile_of, is_entry}
 use Rattle.ids.proofs.EntryLemmas.{accepted_entry}
 use Rattle.quadkey.specs.Key.{key_from, key_of}
 use Rattle.quadkey.specs.Spelling.{key_length_lem}
 use Rattle.tile.specs.OnMap.{no_tile_of, tile_case}
 use Rattle.tile.specs.declared.Tile.{Tile}
-use Rattle.tile.specs.declared.TileAnswer.{TileAnswer}
-use Rattle.tile.specs.declared.TileAnswer.TheVariants.{Found, Refused}
 
 -- what the tile of an entry is found to be; and it is found
-pub entry_found : {r : TileAnswer} {t : Tile} (n : ℕ) → tile_case r ≡ entry_tile_of n → r ≡ Found t → t ≡ entry_tile n
+pub entry_found : {r : Result Tile Refusal} {t : Tile} (n : ℕ) → tile_case r ≡ entry_tile_of n → r ≡ Ok t → t ≡ entry_tile n
 entry_found {r} {t} n e p = (answer_found (entry_refusal n) no_tile_of (entry_tile n) t (sym (ap tile_case p) ∙ e)).1
 
-pub entry_not_refused : {r : TileAnswer} {why : Refusal} (n : ℕ) → IsEntry n → tile_case r ≡ entry_tile_of n → r ≡ Refused why → ⊥
+pub entry_not_refused : {r : Result Tile Refusal} {why : Refusal} (n : ℕ) → IsEntry n → tile_case r ≡ entry_tile_of n → r ≡ Err why → ⊥
 entry_not_refused {r} {why} n i e p =
     never_zero why (sym (answer_refused why (entry_refusal n) no_tile_of (entry_tile n) (sym (ap tile_case p) ∙ e)) ∙ i)
 
@@ -106,21 +104,23 @@ unfolding form_places
 keys_short list f = omega (arith, keys_bound list f.entries, f.few)
 
 -- a digit behind those of a tenth
-pub digit_stored : {n at mid d : ℕ} {before between : List ℕ} → 10 ≤ n → d ≡ 48 + n % 10 → Stored (decimal (n / 10)) at mid before between
-    → Stored (decimal n) at (mid + 1) before (set between mid d)
-digit_stored {n} {at} {mid} {d} {before} {between} h e s =
-    rw e (stored_same (sym (decimal_more n h)) (stored_behind s (one_stored (48 + n % 10) mid between)))
+pub digit_stored : {n at mid end d : ℕ} {before between after : List ℕ} → 10 ≤ n → d ≡ 48 + n % 10
+    → Stored (decimal (n / 10)) at mid before between
+    → Stored (d ∷ []) mid end between after
+    → Stored (decimal n) at end before after
+digit_stored {n} h e s t = stored_same (ap (λ (d : ℕ). decimal (n / 10) ++ (d ∷ [])) e ∙ sym (decimal_more n h)) (stored_behind s t)
 
-pub first_stored : {n d : ℕ} (at : ℕ) (memory : List ℕ) → n < 10 → d ≡ 48 + n → Stored (decimal n) at (at + 1) memory (set memory at d)
-first_stored {n} {d} at memory h e = rw e (stored_same (sym (decimal_digit n h)) (one_stored (48 + n) at memory))
+pub first_stored : {n at end d : ℕ} {before after : List ℕ} → n < 10 → d ≡ 48 + n → Stored (d ∷ []) at end before after
+    → Stored (decimal n) at end before after
+first_stored {n} h e s = stored_same (ap (λ (d : ℕ). d ∷ []) e ∙ sym (decimal_digit n h)) s
 
 -- a space and a key behind the keys before it
-pub key_stored : (list : List ℕ) (i : ℕ) {at mid end : ℕ} {before between after : List ℕ} → i < length list
+pub key_stored : (list : List ℕ) (i : ℕ) {at mid from end : ℕ} {before between behind after : List ℕ} → i < length list
     → Stored (keys_text (take i list)) at mid before between
-    → Stored (entry_shown (get_or list i 0)) (mid + 1) end (set between mid space) after
+    → Stored (space ∷ []) mid from between behind
+    → Stored (entry_shown (get_or list i 0)) from end behind after
     → Stored (keys_text (take (i + 1) list)) at end before after
-key_stored list i {at} {mid} {end} {before} {between} {after} h s t =
-    stored_same (sym (keys_more list i h)) (stored_behind (stored_behind s (one_stored space mid between)) t)
+key_stored list i h s t u = stored_same (sym (keys_more list i h)) (stored_behind (stored_behind s t) u)
 
 -- the whole answers, and how long they are
 pub refusal_length : (n : ℕ) → length (refusal_text n) ≡ 9 + length (decimal n) + 1

@@ -1,5 +1,5 @@
 -- The code goes step by step as the scan does: a byte, a line's answer, an answer that has no room.
-use Rattle.std.specs.Prelude.{◌≡◌, get_or}
+use Rattle.std.specs.Prelude.{◌≡◌, get_or, Result, Ok, Err}
 use Rattle.std.proofs.Math.Path.{refl, sym, ap}
 use Rattle.std.proofs.Common.{◌∙◌, add-one, arith, length-drop, length-set, take-append-drop, drop_of_length-le}
 use mathlib.Core.List.{List, [], ◌∷◌, ◌++◌, append_assoc, append-nil}
@@ -13,8 +13,6 @@ use Rattle.constants.specs.Limits.{max_line}
 use Rattle.errors.specs.Answer.{written}
 use Rattle.errors.specs.Cases.{left}
 use Rattle.errors.specs.Memory.{written_short, written_done}
-use Rattle.errors.specs.declared.Count.{Count}
-use Rattle.errors.specs.declared.Count.TheVariants.{Counted, Refused}
 use Rattle.errors.specs.declared.Refusal.{Refusal}
 use Rattle.errors.specs.declared.Refusal.TheVariants.{Memory}
 use Rattle.form.specs.Ends.{rest_part}
@@ -105,7 +103,7 @@ module _ (chunk : List ℕ) (start : Scan) (i held filled : ℕ) (between out : 
 
   -- no answer was written to it
   pub goes_no_further : i < length chunk → get_or chunk i 0 ≡ newline → (part : List ℕ) (why : Refusal)
-      → left (Refused why) part ≡ written 0 (reply (take held between)) (part_from filled out)
+      → left (Err why) part ≡ written 0 (reply (take held between)) (part_from filled out)
       → scan_at i held filled between (with_part filled out part) ≡ scan (drop start.next chunk) start
   goes_no_further h e part why w =
       let text = reply (take held between) in
@@ -118,7 +116,7 @@ module _ (chunk : List ℕ) (start : Scan) (i held filled : ℕ) (between out : 
 
   -- the answer of a line that has ended was
   pub goes_behind_the_line : (n : ℕ) (part : List ℕ) → length part ≡ length out - filled → i < length chunk → get_or chunk i 0 ≡ newline
-      → left (Counted n) part ≡ written 0 (reply (take held between)) (part_from filled out)
+      → left (Ok n) part ≡ written 0 (reply (take held between)) (part_from filled out)
       → Goes chunk start (i + 1) 0 (filled + n) between (with_part filled out part)
   goes_behind_the_line n part h l e r =
       let text = reply (take held between) in
@@ -134,11 +132,11 @@ module _ (chunk : List ℕ) (start : Scan) (i held filled : ℕ) (between out : 
 
 -- the end of the input: a last line that is not empty is answered
 module _ (line before : List ℕ) where
-  pub nothing_left : left (Counted 0) before ≡ written 0 (said (take 0 line) []) before
+  pub nothing_left : left (Ok 0) before ≡ written 0 (said (take 0 line) []) before
   unfolding said
   nothing_left = written_done [] before before refl (omega arith) refl refl
 
-  pub last_line : (len m : ℕ) (r : Count) (after : List ℕ) → m ≡ min len (length line) → 0 < m
+  pub last_line : (len m : ℕ) (r : Result ℕ Refusal) (after : List ℕ) → m ≡ min len (length line) → 0 < m
       → left r after ≡ written 0 (reply (take m line)) before
       → left r after ≡ written 0 (said (take len line) []) before
   unfolding said
@@ -153,12 +151,12 @@ unfolding reply
 reply_long line = length-append (printed (line_area line)) (newline ∷ [])
 
 module _ (line memory : List ℕ) where
-  pub no_room : length memory ≡ 0 → left (Refused Memory) memory ≡ written 0 (reply line) memory
+  pub no_room : length memory ≡ 0 → left (Err Memory) memory ≡ written 0 (reply line) memory
   no_room h = written_short (reply line) memory refl (omega (arith, h, reply_long line))
 
   module _ (part : List ℕ) (k : ℕ) (h : length memory ≡ suc k) where
-    pub newline_behind : (n : ℕ) → left (Counted n) part ≡ line_written line (take k memory) → length part ≡ length (take k memory)
-        → left (Counted (n + 1)) (set (part ++ drop k memory) n newline) ≡ written 0 (reply line) memory
+    pub newline_behind : (n : ℕ) → left (Ok n) part ≡ line_written line (take k memory) → length part ≡ length (take k memory)
+        → left (Ok (n + 1)) (set (part ++ drop k memory) n newline) ≡ written 0 (reply line) memory
     unfolding reply
     newline_behind n e l =
         let P = printed (line_area line) in
@@ -178,8 +176,8 @@ module _ (line memory : List ℕ) where
         (omega (arith, long))
         (after ∙ rw long (sym (append_assoc P (newline ∷ []) (drop (suc n) memory))))
 
-    pub no_answer : (why : Refusal) → left (Refused why) part ≡ line_written line (take k memory)
-        → left (Refused Memory) (part ++ drop k memory) ≡ written 0 (reply line) memory
+    pub no_answer : (why : Refusal) → left (Err why) part ≡ line_written line (take k memory)
+        → left (Err Memory) (part ++ drop k memory) ≡ written 0 (reply line) memory
     no_answer why e =
         let P = printed (line_area line) in
         let short = written_not P (take k memory) part refl why e in

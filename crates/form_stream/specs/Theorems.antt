@@ -1,5 +1,5 @@
 -- What is said of the input is the answers of its lines, from document 01's "Form line".
-use Rattle.std.specs.Prelude.{◌≡◌, refl, true, not, List, [], ◌∷◌, ◌++◌, ℕ, zero, suc, ◌+◌, ◌≤◌, ◌<◌, eqb, length, take, drop}
+use Rattle.std.specs.Prelude.{◌≡◌, refl, true, not, List, [], ◌∷◌, ◌++◌, ℕ, zero, suc, ◌+◌, ◌≤◌, ◌<◌, eqb, length, take, drop, Ok}
 use Rattle.std.proofs.Common.{sym, ap, ap₂, subst, ◌∙◌, append_assoc, append-nil, arith, length-take, drop_of_length-le, take_at, take_all}
 use Rattle.std.proofs.Math.Decide.{dec_le}
 use Rattle.bits.specs.Tests.{all_of, and_parts, not_true}
@@ -7,7 +7,6 @@ use Rattle.constants.specs.Limits.{max_line}
 use Rattle.errors.specs.Answer.{written}
 use Rattle.errors.specs.Cases.{left}
 use Rattle.errors.specs.Memory.{written_done}
-use Rattle.errors.specs.declared.Count.TheVariants.{Counted}
 use Rattle.form.specs.Form.{newline}
 use Rattle.form_line.specs.Longest.{longest}
 use Rattle.form_line.specs.Stores.{written_counted}
@@ -48,13 +47,13 @@ a_last_line line h k =
 -- printed. Where the input is cut into chunks, and whether what a call leaves of its chunk comes again by itself or in another one, is
 -- free. So is the memory for the answers at each call, and that of the line behind its first bytes.
 pub data Prints : List ℕ → List ℕ → List ℕ → Type 0 where
-  finished : (len n : ℕ) (line before out : List ℕ) → left (Counted n) out ≡ written 0 (said (take len line) []) before
+  finished : (len n : ℕ) (line before out : List ℕ) → left (Ok n) out ≡ written 0 (said (take len line) []) before
       → Prints (take len line) [] (take n out)
   fed : (chunk : List ℕ) (at len : ℕ) (line out rest printed : List ℕ) → length line ≡ suc max_line
       → Prints (line_of (feed_of chunk at len line out)) (drop (feed_of chunk at len line out).next chunk ++ rest) printed
       → Prints (take len line) (drop at chunk ++ rest) (printed_by (feed_of chunk at len line out) ++ printed)
 
-finish_prints : (len n : ℕ) (line before out : List ℕ) → left (Counted n) out ≡ written 0 (said (take len line) []) before
+finish_prints : (len n : ℕ) (line before out : List ℕ) → left (Ok n) out ≡ written 0 (said (take len line) []) before
     → take n out ≡ said (take len line) []
 finish_prints len n line before out f =
     let last = said (take len line) [] in
@@ -80,7 +79,7 @@ pub data Turns (chunk : List ℕ) : ℕ → List ℕ → List ℕ → List ℕ �
 
 -- the calls over all chunks, and the last one
 pub data ChunkCalls : List ℕ → List (List ℕ) → List ℕ → Type 0 where
-  no_more : (len n : ℕ) (line before out : List ℕ) → left (Counted n) out ≡ written 0 (said (take len line) []) before
+  no_more : (len n : ℕ) (line before out : List ℕ) → left (Ok n) out ≡ written 0 (said (take len line) []) before
       → ChunkCalls (take len line) [] (take n out)
   one_chunk : {chunk line last printed more : List ℕ} {chunks : List (List ℕ)} → Turns chunk 0 line printed last
       → ChunkCalls last chunks more

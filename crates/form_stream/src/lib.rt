@@ -10,20 +10,22 @@ ghost use Rattle.form_stream.specs.Steps.{Takes, LineEnds};
 ghost use Rattle.form_stream.specs.Stream.{said, reply as Stream·reply};
 
 use constants::MAX_LINE;
-use errors::{Count, Refusal};
+use errors::Refusal;
 
 // How many bytes of a line are kept: one more than a line may have.
 pub const KEPT: usize = MAX_LINE + 1;
 
-// How far the input is taken in: so many bytes of the chunk, and so many of the line so far are kept.
-#[derive(Clone, Copy)]
+// How far the input is taken in: so many bytes of the chunk, and so many of the line so far are kept. The line and its length are lent apart,
+// as `nori_form_feed` of the C interface lends them.
+#[derive(Clone, Copy, Debug, PartialEq, Eq)]
 pub struct Feeding {
     pub at: usize,
     pub len: usize,
 }
 
 // How far the input is taken in after a call, and how many bytes it wrote.
-#[derive(Clone, Copy)]
+// Beside `Feeding`, since that alone goes into the next call; both go out through the C interface by number.
+#[derive(Clone, Copy, Debug, PartialEq, Eq)]
 pub struct Fed {
     pub feeding: Feeding,
     pub filled: usize,
@@ -35,7 +37,7 @@ pub fn feed(chunk: &[u8], feeding: Feeding, line: &mut [u8; KEPT], out: &mut [u8
     ensures { scan_of result line.new out.new
         ≡ feed_of chunk.now feeding.at feeding.len line.old out.old }
 {
-    feed_lines(chunk, feeding.at, line, least(feeding.len, KEPT), out)
+    feed_lines(chunk, feeding.at, line, feeding.len.min(KEPT), out)
 }
 
 // Before the next chunk: nothing of it is taken in, and the line so far goes on.
@@ -49,26 +51,13 @@ pub fn next_chunk(feeding: Feeding) -> Feeding
 }
 
 // The end of the input behind a line so far.
-pub fn finish(line: &[u8; KEPT], len: usize, out: &mut [u8]) -> Count
+pub fn finish(line: &[u8; KEPT], len: usize, out: &mut [u8]) -> Result<usize, Refusal>
     ensures { left result out.new ≡ written 0 (said (take len line.now) []) out.old }
 {
     if len == 0 {
-        return Count::Counted(0);
+        return Ok(0);
     }
-    reply(front(line, least(len, KEPT)), out)
-}
-
-fn least(a: usize, b: usize) -> usize
-    ensures { result ≡ min a b }
-{
-    if a < b { a } else { b }
-}
-
-fn front(line: &[u8], n: usize) -> &[u8]
-    requires { n ≤ length line.now }
-    ensures { result.now ≡ take n line.now }
-{
-    &line[..n]
+    reply(&line[..len.min(KEPT)], out)
 }
 
 fn feed_lines(chunk: &[u8], from: usize, line: &mut [u8], len: usize, out: &mut [u8]) -> Fed
@@ -76,6 +65,7 @@ fn feed_lines(chunk: &[u8], from: usize, line: &mut [u8], len: usize, out: &mut 
     ensures { scan_of result line.new out.new
         ≡ scan (drop from chunk.now) (scan_at from len 0 line.old out.old) }
 {
+    // The place is kept by hand: it goes from line to line, and the next call takes it up where `out` was too short.
     let mut held = len;
     let mut filled = 0;
     let mut i = from;
@@ -90,12 +80,12 @@ fn feed_lines(chunk: &[u8], from: usize, line: &mut [u8], len: usize, out: &mut 
             };
         }
         match reply(&line[..n], &mut out[filled..]) {
-            Count::Counted(m) => {
+            Ok(m) => {
                 filled += m;
                 held = 0;
                 i = at + 1;
             }
-            Count::Refused(_) => {
+            Err(_) => {
                 return Fed {
                     feeding: taken,
                     filled,
@@ -109,7 +99,7 @@ fn feed_lines(chunk: &[u8], from: usize, line: &mut [u8], len: usize, out: &mut 
     }
 }
 
-// The bytes of a chunk up to the end of a line, or of the chunk.
+// The bytes of a chunk up to the end of a line, or of the chunk. The loop counts the place, since the place is the answer.
 fn take_line(chunk: &[u8], from: usize, line: &mut [u8], len: usize) -> Feeding
     requires from_in_bounds { from ≤ length chunk.now }
     requires line_len { (length line.old ≡ suc max_line) × (len ≤ length line.old) }
@@ -142,18 +132,18 @@ fn keep(b: u8, line: &mut [u8], len: usize) -> usize
 }
 
 // The answer of a line, on a line of its own. The answer is lent one place less, so that its newline has one.
-fn reply(line: &[u8], out: &mut [u8]) -> Count
+fn reply(line: &[u8], out: &mut [u8]) -> Result<usize, Refusal>
     ensures { left result out.new ≡ written 0 (Stream·reply line.now) out.old }
 {
     let room = out.len();
     if room == 0 {
-        return Count::Refused(Refusal::Memory);
+        return Err(Refusal::Memory);
     }
     match form_line::answer(line, &mut out[..room - 1]) {
-        Count::Counted(n) => {
+        Ok(n) => {
             out[n] = b'\n';
-            Count::Counted(n + 1)
+            Ok(n + 1)
         }
-        Count::Refused(_) => Count::Refused(Refusal::Memory),
+        Err(_) => Err(Refusal::Memory),
     }
 }

@@ -1,13 +1,12 @@
 -- Row-major numbers: the tiles of all zooms above, then the tile's place in its own zoom, row by row.
-use Rattle.std.specs.Prelude.{cond, ℕ, zero, suc, ◌+◌, ◌-◌, ◌*◌, ◌/◌, ◌%◌, ◌^◌, leb}
+use Rattle.errors.specs.declared.Refusal.{Refusal}
+use Rattle.std.specs.Prelude.{cond, ℕ, zero, suc, ◌+◌, ◌-◌, ◌*◌, ◌/◌, ◌%◌, ◌^◌, leb, Result}
 use Rattle.constants.specs.Limits.{max_zoom}
 use Rattle.errors.specs.Answer.{Answer, answer, ◌when◌}
-use Rattle.errors.specs.Cases.{refused_as}
+use Rattle.errors.specs.Cases.{case_of}
 use Rattle.tile.specs.OnMap.{tile_at, no_tile_of, tile_refusal}
 use Rattle.tile.specs.declared.Tile.{Tile}
 use Rattle.ids.specs.declared.OffsetZoom.{OffsetZoom}
-use Rattle.ids.specs.declared.OffsetZoomAnswer.{OffsetZoomAnswer}
-use Rattle.ids.specs.declared.OffsetZoomAnswer.TheVariants.{Found, Refused}
 
 -- how many tiles the zooms above z have together
 unfoldable pub level_start : ℕ → ℕ
@@ -34,9 +33,8 @@ zoom_of n = zoom_up_to n max_zoom
 abbrev pub offset_of : ℕ → ℕ
 offset_of n = n - level_start (zoom_of n)
 
-abbrev pub offset_zoom_case : OffsetZoomAnswer → Answer OffsetZoom
-offset_zoom_case (Found o) = record { number = 0; value = o }
-offset_zoom_case (Refused why) = refused_as why (record { offset = 0; zoom = 0 })
+abbrev pub offset_zoom_case : Result OffsetZoom Refusal → Answer OffsetZoom
+offset_zoom_case r = case_of (record { offset = 0; zoom = 0 }) r
 
 abbrev pub rmid_refusal : ℕ → ℕ
 rmid_refusal n = 7 when leb rmid_limit n

@@ -3,27 +3,25 @@
 
 ghost use Rattle.std.specs.Prelude.{◌≡◌, ◌*◌, ◌/◌, ◌%◌, ◌^◌, ◌<◌, ◌≤◌};
 ghost use Rattle.constants.specs.Limits.{max_zoom};
-ghost use Rattle.errors.specs.Cases.{u64_case};
+ghost use Rattle.errors.specs.Cases.{number_case};
 ghost use Rattle.tile.specs.OnMap.{OnMap, tile_at, tile_case};
 ghost use Rattle.ids.specs.Entry.{entry_of, entry_tile_of};
 ghost use Rattle.ids.specs.Id.{HasId, id_of, to_id_of, from_id_of};
 ghost use Rattle.ids.specs.Rmid.{level_start, rmid, rmid_limit, to_rmid_of, zoom_of, offset_zoom_case, offset_zoom_of, from_rmid_of};
 
 use constants::{MAX_ID_ZOOM, MAX_ZOOM};
-use errors::{Check, Refusal, U64Answer};
-use tile::{Tile, TileAnswer};
+use errors::Refusal;
+use tile::Tile;
 
 // The number (2^(z + 1) * y + x) * 32 + z of a tile, of a zoom where it fits 64 bits.
-pub fn to_id(x: u32, y: u32, z: u8) -> U64Answer
-    ensures { u64_case result ≡ to_id_of x y z }
+pub fn to_id(x: u32, y: u32, z: u8) -> Result<u64, Refusal>
+    ensures { number_case result ≡ to_id_of x y z }
 {
     if z > MAX_ID_ZOOM {
-        return U64Answer::Refused(Refusal::Zoom);
+        return Err(Refusal::Zoom);
     }
-    match tile::check(x, y, z) {
-        Check::Fine => U64Answer::Number(id(x, y, z)),
-        Check::Refused(why) => U64Answer::Refused(why),
-    }
+    tile::check(x, y, z)?;
+    Ok(id(x, y, z))
 }
 
 fn id(x: u32, y: u32, z: u8) -> u64
@@ -34,24 +32,24 @@ fn id(x: u32, y: u32, z: u8) -> u64
 }
 
 // The tile of a number of `to_id`.
-pub fn from_id(id: u64) -> TileAnswer
+pub fn from_id(id: u64) -> Result<Tile, Refusal>
     ensures { tile_case result ≡ from_id_of id }
 {
     let zoom = (id % 32) as u8;
     if zoom > MAX_ID_ZOOM {
-        return TileAnswer::Refused(Refusal::NoTile);
+        return Err(Refusal::NoTile);
     }
     let place = id / 32;
     let end = bits::wide_pow2(zoom);
     let y = place >> (zoom + 1);
     let x = place - (y << (zoom + 1));
     if x >= end {
-        return TileAnswer::Refused(Refusal::NoTile);
+        return Err(Refusal::NoTile);
     }
     if y >= end {
-        return TileAnswer::Refused(Refusal::NoTile);
+        return Err(Refusal::NoTile);
     }
-    TileAnswer::Found(Tile {
+    Ok(Tile {
         x: x as u32,
         y: y as u32,
         z: zoom,
@@ -67,33 +65,25 @@ pub fn entry(x: u32, y: u32, z: u8) -> u64
 }
 
 // The tile that a number in a list stands for.
-pub fn entry_tile(entry: u64) -> TileAnswer
+pub fn entry_tile(entry: u64) -> Result<Tile, Refusal>
     ensures { tile_case result ≡ entry_tile_of entry }
 {
     rmid2xyz(entry)
 }
 
 // A row-major number taken apart: the place within its zoom, and the zoom.
-#[derive(Clone, Copy)]
+#[derive(Clone, Copy, Debug, PartialEq, Eq)]
 pub struct OffsetZoom {
     pub offset: u64,
     pub zoom: u8,
 }
 
-#[derive(Clone, Copy)]
-pub enum OffsetZoomAnswer {
-    Found(OffsetZoom),
-    Refused(Refusal),
-}
-
 // The number of a tile counted row by row, from the root on.
-pub fn xyz2rmid(x: u32, y: u32, z: u8) -> U64Answer
-    ensures { u64_case result ≡ to_rmid_of x y z }
+pub fn xyz2rmid(x: u32, y: u32, z: u8) -> Result<u64, Refusal>
+    ensures { number_case result ≡ to_rmid_of x y z }
 {
-    match tile::check(x, y, z) {
-        Check::Fine => U64Answer::Number(rmid(x, y, z)),
-        Check::Refused(why) => U64Answer::Refused(why),
-    }
+    tile::check(x, y, z)?;
+    Ok(rmid(x, y, z))
 }
 
 fn rmid(x: u32, y: u32, z: u8) -> u64
@@ -112,14 +102,14 @@ fn level_start(z: u8) -> u64
 }
 
 // The zoom of a number of `xyz2rmid`, and its offset among the numbers of that zoom.
-pub fn int_2_offset_zoom(i: u64) -> OffsetZoomAnswer
+pub fn int_2_offset_zoom(i: u64) -> Result<OffsetZoom, Refusal>
     ensures { offset_zoom_case result ≡ offset_zoom_of i }
 {
     if i >= level_start(MAX_ZOOM + 1) {
-        return OffsetZoomAnswer::Refused(Refusal::NoTile);
+        return Err(Refusal::NoTile);
     }
     let zoom = zoom_of(i);
-    OffsetZoomAnswer::Found(OffsetZoom {
+    Ok(OffsetZoom {
         offset: i - level_start(zoom),
         zoom,
     })
@@ -136,13 +126,11 @@ fn zoom_of(i: u64) -> u8
 }
 
 // The tile of a number of `xyz2rmid`.
-pub fn rmid2xyz(i: u64) -> TileAnswer
+pub fn rmid2xyz(i: u64) -> Result<Tile, Refusal>
     ensures { tile_case result ≡ from_rmid_of i }
 {
-    match int_2_offset_zoom(i) {
-        OffsetZoomAnswer::Found(at) => TileAnswer::Found(tile_at(at.offset, at.zoom)),
-        OffsetZoomAnswer::Refused(why) => TileAnswer::Refused(why),
-    }
+    let at = int_2_offset_zoom(i)?;
+    Ok(tile_at(at.offset, at.zoom))
 }
 
 // The tile at a place within its zoom: a row above z binary digits, and a column below them.

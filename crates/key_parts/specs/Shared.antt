@@ -1,8 +1,9 @@
 -- The leading bytes that two keys share, a byte at a time, and which two keys are refused.
-use Rattle.std.specs.Prelude.{◌≡◌, ◌↔◌, Bool, cond, ◌||◌, List, [], ◌∷◌, ℕ, zero, suc, ◌+◌, ◌≤◌, ◌<◌, ltb, eqb, length, take, drop, get_or}
+use Rattle.std.specs.Prelude.{◌≡◌, ◌↔◌, min, Bool, cond, ◌||◌, List, [], ◌∷◌, ℕ, zero, suc, ◌+◌, ◌≤◌, ◌<◌, ltb, eqb, length, take, drop, get_or}
 use Rattle.std.proofs.Math.Path.{refl}
 use Rattle.std.proofs.Common.{ap₂, arith, length-take, drop_of_length-le, length-take-le}
 use Rattle.std.proofs.Math.Bool.{true, false, not}
+use Rattle.std.proofs.Math.Decide.{dec_lt}
 use Rattle.std.proofs.Math.Numerals.{add-one}
 use Rattle.std.proofs.Math.Seq.{drop-cons}
 use borrow.Author.Tests.{le-ltb, lt-ltb, eqb-true, eq-eqb, ne_eqb}
@@ -57,6 +58,14 @@ module _ (a b : List ℕ) (i : ℕ) where
 
   pub shared_end_second : length b ≤ i → i + shared_length (drop i a) (drop i b) ≡ i
   shared_end_second h = rw (drop_of_length-le b h, shared_none (drop i a)) (omega arith)
+
+-- past the end of either key nothing more is shared
+pub shared_end : (a b : List ℕ) (i : ℕ) → min (length a) (length b) ≤ i → i + shared_length (drop i a) (drop i b) ≡ i
+shared_end a b i h = pick (dec_lt i (length a))
+  where
+    pick : Dec (i < length a) → i + shared_length (drop i a) (drop i b) ≡ i
+    pick (yes k) = shared_end_second a b i (omega (arith, h))
+    pick (no k) = shared_end_first a b i (omega arith)
 
 pub shared_within : (a b : List ℕ) → shared_length a b ≤ length a
 unfolding shared_length

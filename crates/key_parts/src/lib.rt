@@ -6,7 +6,7 @@ ghost use Rattle.errors.specs.Cases.{check_number};
 ghost use Rattle.key_parts.specs.Parts.{ancestor_refusal, leading_part, shared_length, shared_refusal};
 
 use constants::MAX_ZOOM;
-use errors::{Check, Refusal};
+use errors::Refusal;
 use quadkey::check;
 
 // The key of the ancestor with n digits: the leading part of the caller's own bytes. Empty where it is refused.
@@ -14,8 +14,8 @@ pub fn ancestor_key<'a>(key: &'a [u8], n: usize) -> &'a [u8]
     ensures { (result.ref_ptr, result.now) ≡ leading_part key.entry (ancestor_refusal key.now n) n }
 {
     match ancestor_check(key, n) {
-        Check::Fine => &key[..n],
-        Check::Refused(_) => &key[..0],
+        Ok(()) => &key[..n],
+        Err(_) => &key[..0],
     }
 }
 
@@ -26,11 +26,11 @@ pub fn ancestor_key_refusal(key: &[u8], n: usize) -> u8
     errors::check_number(ancestor_check(key, n))
 }
 
-fn ancestor_check(key: &[u8], n: usize) -> Check
+fn ancestor_check(key: &[u8], n: usize) -> Result<(), Refusal>
     ensures { check_number result ≡ ancestor_refusal key.now n }
 {
     if key.len() < n {
-        return Check::Refused(Refusal::NoRelative);
+        return Err(Refusal::NoRelative);
     }
     check(key)
 }
@@ -41,11 +41,11 @@ pub fn shared_key<'a, 'b>(a: &'a [u8], b: &'b [u8]) -> &'a [u8]
         (shared_length a.now b.now) }
 {
     match shared_check(a, b) {
-        Check::Fine => {
+        Ok(()) => {
             let n = shared_length(a, b);
             &a[..n]
         }
-        Check::Refused(_) => &a[..0],
+        Err(_) => &a[..0],
     }
 }
 
@@ -57,27 +57,24 @@ pub fn shared_key_refusal(a: &[u8], b: &[u8]) -> u8
 }
 
 // The refusal that is tested first over both keys: lengths, then bytes.
-fn shared_check(a: &[u8], b: &[u8]) -> Check
+fn shared_check(a: &[u8], b: &[u8]) -> Result<(), Refusal>
     ensures { check_number result ≡ shared_refusal a.now b.now }
 {
     if b.len() > MAX_ZOOM as usize {
-        return Check::Refused(Refusal::KeyLength);
+        return Err(Refusal::KeyLength);
     }
-    match check(a) {
-        Check::Fine => check(b),
-        Check::Refused(why) => Check::Refused(why),
-    }
+    check(a)?;
+    check(b)
 }
 
 fn shared_length(a: &[u8], b: &[u8]) -> usize
     ensures { result ≡ shared_length a.now b.now }
 {
-    let mut i = 0;
-    while i < a.len() && i < b.len() {
+    let shorter = a.len().min(b.len());
+    for i in 0..shorter {
         if a[i] != b[i] {
             return i;
         }
-        i += 1;
     }
-    i
+    shorter
 }

@@ -4,15 +4,14 @@
 --   is_reader r          whether some do
 --   fed_of r b           what a feed answers
 --   told_of r            what the reader tells
-use Rattle.std.specs.Prelude.{Bool, true, false, cond, not, ◌&&◌, List, [], ◌∷◌, ◌++◌, ℕ, suc, ltb, eqb, length, replicate}
+use Rattle.std.specs.Prelude.{Bool, true, false, cond, not, ◌&&◌, List, [], ◌∷◌, ◌++◌, ℕ, suc, ltb, eqb, length, replicate, Result, ⊤}
 use Rattle.constants.specs.Limits.{max_zoom}
 use Rattle.errors.specs.Answer.{Answer, answer, ◌when◌, ◌else◌}
-use Rattle.errors.specs.Cases.{refused_as}
+use Rattle.errors.specs.declared.Refusal.{Refusal}
+use Rattle.errors.specs.Cases.{check_number}
 use Rattle.quadkey.specs.Key.{all_digits_of, column_of, key_of, key_refusal, row_of, tile_of}
 use Rattle.tile.specs.OnMap.{no_tile_of}
 use Rattle.tile.specs.declared.Tile.{Tile}
-use Rattle.key_reader.specs.declared.FeedAnswer.{FeedAnswer}
-use Rattle.key_reader.specs.declared.FeedAnswer.TheVariants.{Fed, Refused}
 use Rattle.key_reader.specs.declared.KeyReader.{KeyReader}
 
 abbrev pub reader_at : ℕ → ℕ → ℕ → Bool → KeyReader
@@ -47,9 +46,9 @@ is_reader r = same_reader r (reader_after (left_by r))
 abbrev pub fed_of : KeyReader → ℕ → Answer KeyReader
 fed_of r b = answer (16 when not (is_reader r)) r (reader_after (left_by r ++ (b ∷ [])))
 
-abbrev pub feed_case : FeedAnswer → Answer KeyReader
-feed_case (Fed r) = record { number = 0; value = r }
-feed_case (Refused why r) = refused_as why r
+-- the refusal's number, beside the reader as the feed left it
+abbrev pub feed_case : Result ⊤ Refusal → KeyReader → Answer KeyReader
+feed_case r after = record { number = check_number r; value = after }
 
 -- "just what a caller is promised for the bytes so far as a whole key"; "16, tested before 4"
 abbrev pub told_of : KeyReader → Answer Tile

@@ -1,32 +1,27 @@
 // A key read in one pass: a reader that is fed its bytes one by one, and tells at any time what they are as a whole key.
 #![tactic(auto)]
 
-ghost use Rattle.std.specs.Prelude.{◌≡◌, true, false, ◌&&◌, [], ◌++◌, ◌+◌, ◌≤◌, eqb, length};
+ghost use Rattle.std.specs.Prelude.{◌≡◌, true, false, not, ◌&&◌, [], ◌++◌, ◌+◌, ◌≤◌, eqb, length};
 ghost use Rattle.constants.specs.Limits.{max_zoom};
+ghost use Rattle.errors.specs.Answer.{◌when◌};
+ghost use Rattle.errors.specs.Cases.{check_number};
 ghost use Rattle.quadkey.specs.Key.{key_tile};
 ghost use Rattle.tile.specs.OnMap.{OnMap, tile_case};
 ghost use Rattle.key_reader.specs.Reader.{feed_case, fed_of, is_reader, left_by, reader_after, reader_at, told_of};
 
 use constants::MAX_ZOOM;
-use errors::{Check, Refusal};
+use errors::Refusal;
 use quadkey::is_quadkey_byte;
-use tile::{Tile, TileAnswer};
+use tile::Tile;
 
 // What is kept of the bytes so far, and none of them: the column and row that they spell, and their count. Where one is no digit, `bad` and
 // the count; where they are more than the longest key has, a count of one more, whatever they were.
-#[derive(Clone, Copy)]
+#[derive(Clone, Copy, Debug, PartialEq, Eq)]
 pub struct KeyReader {
     pub x: u32,
     pub y: u32,
     pub count: u8,
     pub bad: bool,
-}
-
-// What a feed answers. The reader that is refused comes back as it was.
-#[derive(Clone, Copy)]
-pub enum FeedAnswer {
-    Fed(KeyReader),
-    Refused(Refusal, KeyReader),
 }
 
 impl KeyReader {
@@ -37,25 +32,31 @@ impl KeyReader {
         blank(0, false)
     }
 
-    // The reader after one byte more.
-    pub fn feed(self, byte: u8) -> FeedAnswer
-        ensures { feed_case result ≡ fed_of self byte }
+    // One byte more. A reader that is refused stays as it was.
+    pub fn feed(&mut self, byte: u8) -> Result<(), Refusal>
+        ensures { feed_case result self.new ≡ fed_of self.old byte }
     {
-        if !self.is_reader() {
-            return FeedAnswer::Refused(Refusal::NoState, self);
-        }
-        let bytes = [byte];
-        FeedAnswer::Fed(self.after(&bytes))
+        self.check()?;
+        *self = self.after(&[byte]);
+        Ok(())
     }
 
     // What the bytes so far are as a whole key: the tile, or the refusal.
-    pub fn tile(self) -> TileAnswer
+    pub fn tile(self) -> Result<Tile, Refusal>
         ensures { tile_case result ≡ told_of self }
     {
-        if !self.is_reader() {
-            return TileAnswer::Refused(Refusal::NoState);
-        }
+        self.check()?;
         self.told()
+    }
+
+    // Whether the reader is refused: no bytes leave it.
+    fn check(self) -> Result<(), Refusal>
+        ensures { check_number result ≡ 16 when not (is_reader self) }
+    {
+        if !self.is_reader() {
+            return Err(Refusal::NoState);
+        }
+        Ok(())
     }
 
     // Whether some bytes leave this reader.
@@ -72,10 +73,7 @@ impl KeyReader {
         if count > MAX_ZOOM {
             return count == MAX_ZOOM + 1 && self.is_blank();
         }
-        match tile::check(self.x, self.y, count) {
-            Check::Fine => true,
-            Check::Refused(_) => false,
-        }
+        tile::check(self.x, self.y, count).is_ok()
     }
 
     fn is_blank(self) -> bool
@@ -85,17 +83,17 @@ impl KeyReader {
     }
 
     // The same of a reader that bytes have left: 16 is not tested again.
-    fn told(self) -> TileAnswer
+    fn told(self) -> Result<Tile, Refusal>
         requires { is_reader self ≡ true }
         ensures { tile_case result ≡ key_tile (left_by self) }
     {
         if self.count > MAX_ZOOM {
-            return TileAnswer::Refused(Refusal::KeyLength);
+            return Err(Refusal::KeyLength);
         }
         if self.bad {
-            return TileAnswer::Refused(Refusal::KeyByte);
+            return Err(Refusal::KeyByte);
         }
-        TileAnswer::Found(Tile {
+        Ok(Tile {
             x: self.x,
             y: self.y,
             z: self.count,
@@ -130,16 +128,13 @@ impl KeyReader {
         let count = self.count + bytes.len() as u8;
         let mut x = self.x;
         let mut y = self.y;
-        let mut i = 0;
-        while i < bytes.len() {
-            let byte = bytes[i];
-            if !is_quadkey_byte(byte) {
+        for byte in bytes {
+            if !is_quadkey_byte(*byte) {
                 return blank(count, true);
             }
-            let digit = wide(byte - b'0');
+            let digit = u32::from(*byte - b'0');
             x = 2 * x + digit % 2;
             y = 2 * y + digit / 2 % 2;
-            i += 1;
         }
         KeyReader {
             x,
@@ -162,17 +157,9 @@ fn blank(count: u8, bad: bool) -> KeyReader
     }
 }
 
-fn wide(b: u8) -> u32
-    ensures { result ≡ b }
-{
-    b as u32
-}
-
 // The tile of a key: the reader, fed with it, tells.
-pub fn quadkey2xyz(key: &[u8]) -> TileAnswer
+pub fn quadkey2xyz(key: &[u8]) -> Result<Tile, Refusal>
     ensures { tile_case result ≡ key_tile key.now }
 {
-    let reader = KeyReader::start();
-    let fed = reader.after(key);
-    fed.told()
+    KeyReader::start().after(key).told()
 }

@@ -1,5 +1,6 @@
 -- What the calls on tile lists answer, from document 01.
-use Rattle.std.specs.Prelude.{false, List, ℕ, length}
+use Rattle.errors.specs.declared.Refusal.{Refusal}
+use Rattle.std.specs.Prelude.{false, List, ℕ, length, Result, Ok, Err}
 use Rattle.constants.specs.Limits.{max_zoom}
 use Rattle.errors.specs.Answer.{Answer, Lent}
 use Rattle.errors.specs.Cases.{refused_as}
@@ -7,18 +8,16 @@ use Rattle.tile_list.specs.List.{listed, entries_in_order, places_refusal, list_
 use Rattle.tile_set.specs.Set.{merged, simplified, simplified_v1}
 use Rattle.work.specs.Work.{merge_changes}
 use Rattle.merge.specs.declared.Merged.{Merged}
-use Rattle.merge.specs.declared.MergeAnswer.{MergeAnswer}
-use Rattle.merge.specs.declared.MergeAnswer.TheVariants.{Found, Refused}
 
 abbrev pub no_merge : Merged
 no_merge = record { count = 0; changed = false }
 
-abbrev pub merge_case : MergeAnswer → Answer Merged
-merge_case (Found r) = record { number = 0; value = r }
-merge_case (Refused why) = refused_as why no_merge
+abbrev pub merge_case : Result Merged Refusal → Answer Merged
+merge_case (Ok r) = record { number = 0; value = r }
+merge_case (Err why) = refused_as why no_merge
 
 -- an answer beside its memory
-abbrev pub merged_left : MergeAnswer → List ℕ → Lent Merged
+abbrev pub merged_left : Result Merged Refusal → List ℕ → Lent Merged
 merged_left r memory = record { number = (merge_case r).number; value = (merge_case r).value; memory = memory }
 
 -- the list's set after one pass, in order

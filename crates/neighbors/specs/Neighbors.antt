@@ -1,5 +1,5 @@
 -- The tiles around a tile, in the Rust's orders, as document 01 states them.
-use Rattle.std.specs.Prelude.{Bool, cond, ◌&&◌, List, [], ◌∷◌, ◌++◌, ℕ, zero, suc, ◌+◌, ◌-◌, ◌/◌, ◌%◌, ◌^◌, leb, length, take, drop}
+use Rattle.std.specs.Prelude.{Option, Some, None, Bool, cond, ◌&&◌, List, [], ◌∷◌, ◌++◌, ℕ, zero, suc, ◌+◌, ◌-◌, ◌/◌, ◌%◌, ◌^◌, leb, length, take, drop}
 use Rattle.children.specs.Children.{gather}
 use Rattle.ids.specs.Entry.{entries_of}
 use Rattle.errors.specs.Answer.{Lent, written}
@@ -8,8 +8,6 @@ use Rattle.tile.specs.OnMap.{OnMap, tile_at, tile_refusal}
 use Rattle.tile.specs.declared.Tile.{Tile}
 use Rattle.neighbors.specs.declared.Seam.{Seam}
 use Rattle.neighbors.specs.declared.Seam.TheVariants.{Cut, Wrapped}
-use Rattle.neighbors.specs.declared.Spot.{Spot}
-use Rattle.neighbors.specs.declared.Spot.TheVariants.{At, Off}
 
 -- the orders in which the block of nine squares around a tile is gone through. They are numbered column by column:
 --     0 3 6
@@ -56,13 +54,13 @@ abbrev pub around_written : Seam → ℕ → ℕ → ℕ → List ℕ → Lent �
 around_written seam x y z memory = written (tile_refusal x y z) (entries_of (gather (near_of seam x y z) (order_of seam))) memory
 
 -- how the code holds the tile of a square
-abbrev pub spot_tiles : ℕ → Spot → List Tile
-spot_tiles z (At x y) = tile_at x y z ∷ []
-spot_tiles z Off = []
+abbrev pub spot_tiles : Option Tile → List Tile
+spot_tiles (Some t) = t ∷ []
+spot_tiles None = []
 
-abbrev pub SpotOnMap : ℕ → Spot → Type 0
-SpotOnMap z (At x y) = OnMap x y z
-SpotOnMap z Off = Unit {0}
+abbrev pub SpotOnMap : Option Tile → Type 0
+SpotOnMap (Some t) = OnMap t.x t.y t.z
+SpotOnMap None = Unit {0}
 
 -- a list written over another from place n on
 abbrev pub pasted : ℕ → List ℕ → List ℕ → List ℕ

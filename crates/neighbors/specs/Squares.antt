@@ -1,5 +1,5 @@
 -- The squares around a tile, one after the other: which tiles are found among the first of them, and that there are eight at most.
-use Rattle.std.specs.Prelude.{◌≡◌, refl, Bool, true, false, cond, ◌&&◌, List, [], ◌∷◌, ◌++◌, ℕ, zero, suc, ◌+◌, ◌-◌, ◌/◌, ◌%◌, ◌^◌, ◌≤◌, ◌<◌, ltb, length, take, drop, get_or}
+use Rattle.std.specs.Prelude.{Option, ◌≡◌, refl, Bool, true, false, cond, ◌&&◌, List, [], ◌∷◌, ◌++◌, ℕ, zero, suc, ◌+◌, ◌-◌, ◌/◌, ◌%◌, ◌^◌, ◌≤◌, ◌<◌, ltb, length, take, drop, get_or}
 use Rattle.std.proofs.Common.{sym, ap, ◌∙◌, append-nil, add-one, arith, length-append, take-append-drop, take-suc, ltb-true}
 use Rattle.std.proofs.Math.Seq.{take-length}
 use Rattle.bits.specs.Tests.{all_of, all_at}
@@ -10,7 +10,6 @@ use Rattle.tile.specs.declared.Tile.{Tile}
 use Rattle.neighbors.specs.Neighbors.{neighbors_of, step_on_map, near_of, order_of, spot_tiles}
 use Rattle.neighbors.specs.declared.Seam.{Seam}
 use Rattle.neighbors.specs.declared.Seam.TheVariants.{Cut, Wrapped}
-use Rattle.neighbors.specs.declared.Spot.{Spot}
 
 pub eight : (seam : Seam) → length (order_of seam) ≡ 8
 eight Wrapped = refl
@@ -48,9 +47,9 @@ found_within seam x y z k =
     (sym (gather_append f (take k (order_of seam)) (drop k (order_of seam))) ∙ ap (gather f) (take-append-drop k (order_of seam))) in
     omega (arith, e, length-append (gather f (take k (order_of seam))) (gather f (drop k (order_of seam))))
 
-pub count_more : (seam : Seam) (x y z k n : ℕ) (spot : Spot) → k < 8 → n ≡ length (found seam x y z k)
-    → spot_tiles z spot ≡ near_of seam x y z (get_or (order_of seam) k 0)
-    → n + length (spot_tiles z spot) ≡ length (found seam x y z (k + 1))
+pub count_more : (seam : Seam) (x y z k n : ℕ) (spot : Option Tile) → k < 8 → n ≡ length (found seam x y z k)
+    → spot_tiles spot ≡ near_of seam x y z (get_or (order_of seam) k 0)
+    → n + length (spot_tiles spot) ≡ length (found seam x y z (k + 1))
 count_more seam x y z k n spot h e f = rw (found_more seam x y z k h, length-append, ← f, e)
 
 -- a square has one tile at most, so k squares have k

@@ -1,16 +1,17 @@
 // The tiles around a tile, as list entries: its neighbours, and its neighbours on a map that wraps in x.
 #![tactic(auto)]
 
-ghost use Rattle.std.specs.Prelude.{◌≡◌, ◌++◌, ◌+◌, ◌^◌, ◌<◌, ◌≤◌, length, drop, get_or};
+ghost use Rattle.std.specs.Prelude.{◌≡◌, ◌++◌, ◌+◌, ◌^◌, ◌<◌, ◌≤◌, length, drop};
 ghost use Rattle.errors.specs.Answer.{answer};
-ghost use Rattle.errors.specs.Cases.{count_case, left};
+ghost use Rattle.errors.specs.Cases.{number_case, left};
 ghost use Rattle.tile.specs.OnMap.{OnMap, tile_refusal};
 ghost use Rattle.children.specs.Children.{gather};
 ghost use Rattle.ids.specs.Entry.{entries_of};
 ghost use Rattle.neighbors.specs.Neighbors.{order_of, near_of, spot_tiles, neighbors_written, around_written, SpotOnMap, pasted};
 ghost use Rattle.neighbors.specs.declared.Seam.TheVariants.{Cut, Wrapped};
 
-use errors::{Check, Count, Refusal, U32Answer};
+use errors::Refusal;
+use tile::Tile;
 
 // The squares of the block of nine around a tile, numbered column by column from 0; the tile itself is square 4.
 const AROUND: [u8; 8] = [7, 5, 8, 1, 3, 0, 6, 2];
@@ -18,33 +19,38 @@ const AROUND: [u8; 8] = [7, 5, 8, 1, 3, 0, 6, 2];
 const AROUND_WRAPPED: [u8; 8] = [0, 1, 2, 3, 5, 6, 7, 8];
 
 // The seam of the map is the antimeridian: the map is cut there, or wrapped, so that the last column stands beside the first.
-#[derive(Clone, Copy)]
+#[derive(Clone, Copy, Debug, PartialEq, Eq)]
 pub enum Seam {
     Cut,
     Wrapped,
 }
 
-// What stands at such a square: a tile of the map, or none.
-#[derive(Clone, Copy)]
-pub enum Spot {
-    At { x: u32, y: u32 },
-    Off,
+impl Seam {
+    // The squares in the order in which they are gone through.
+    fn squares(self) -> [u8; 8]
+        ensures { result ≡ order_of self }
+    {
+        match self {
+            Seam::Cut => AROUND,
+            Seam::Wrapped => AROUND_WRAPPED,
+        }
+    }
 }
 
 // The tiles of the map around a tile, in the Rust's order: none at zoom 0, the siblings at zoom 1.
-pub fn neighbors(x: u32, y: u32, z: u8, out: &mut [u64]) -> Count
+pub fn neighbors(x: u32, y: u32, z: u8, out: &mut [u64]) -> Result<usize, Refusal>
     ensures { left result out.new ≡ neighbors_written Cut x y z out.old }
 {
     near(Seam::Cut, x, y, z, out)
 }
 
-pub fn neighbors_wrap_x(x: u32, y: u32, z: u8, out: &mut [u64]) -> Count
+pub fn neighbors_wrap_x(x: u32, y: u32, z: u8, out: &mut [u64]) -> Result<usize, Refusal>
     ensures { left result out.new ≡ neighbors_written Wrapped x y z out.old }
 {
     near(Seam::Wrapped, x, y, z, out)
 }
 
-fn near(seam: Seam, x: u32, y: u32, z: u8, out: &mut [u64]) -> Count
+fn near(seam: Seam, x: u32, y: u32, z: u8, out: &mut [u64]) -> Result<usize, Refusal>
     ensures { left result out.new ≡ neighbors_written seam x y z out.old }
 {
     match z {
@@ -55,30 +61,24 @@ fn near(seam: Seam, x: u32, y: u32, z: u8, out: &mut [u64]) -> Count
 }
 
 // At zoom 0 there is nothing beside a tile, and no memory is needed.
-fn none(x: u32, y: u32, z: u8) -> Count
-    ensures { count_case result ≡ answer (tile_refusal x y z) 0 0 }
+fn none(x: u32, y: u32, z: u8) -> Result<usize, Refusal>
+    ensures { number_case result ≡ answer (tile_refusal x y z) 0 0 }
 {
-    match tile::check(x, y, z) {
-        Check::Fine => Count::Counted(0),
-        Check::Refused(why) => Count::Refused(why),
-    }
+    tile::check(x, y, z)?;
+    Ok(0)
 }
 
 // The tiles of the block of nine that are on the map.
-fn around(seam: Seam, x: u32, y: u32, z: u8, out: &mut [u64]) -> Count
+fn around(seam: Seam, x: u32, y: u32, z: u8, out: &mut [u64]) -> Result<usize, Refusal>
     ensures { left result out.new ≡ around_written seam x y z out.old }
 {
-    match tile::side(x, y, z) {
-        U32Answer::Number(end) => {
-            let n = count(seam, x, y, z, end);
-            if out.len() < n {
-                return Count::Refused(Refusal::Memory);
-            }
-            fill(seam, x, y, z, end, out);
-            Count::Counted(n)
-        }
-        U32Answer::Refused(why) => Count::Refused(why),
+    let end = tile::side(x, y, z)?;
+    let n = count(seam, x, y, z, end);
+    if out.len() < n {
+        return Err(Refusal::Memory);
     }
+    fill(seam, x, y, z, end, out);
+    Ok(n)
 }
 
 fn count(seam: Seam, x: u32, y: u32, z: u8, end: u32) -> usize
@@ -87,22 +87,17 @@ fn count(seam: Seam, x: u32, y: u32, z: u8, end: u32) -> usize
     ensures { result ≡ length (gather (near_of seam x y z) (order_of seam)) }
 {
     let mut n = 0;
-    let mut k = 0;
-    while k < 8 {
-        n += tiles(z, spot_at(seam, x, y, z, end, k));
-        k += 1;
+    for s in seam.squares() {
+        n += tiles(spot_at(seam, x, y, z, end, s));
     }
     n
 }
 
 // How many tiles a square has: one, or none where it is off the map.
-fn tiles(z: u8, spot: Spot) -> usize
-    ensures { result ≡ length (spot_tiles z spot) }
+fn tiles(spot: Option<Tile>) -> usize
+    ensures { result ≡ length (spot_tiles spot) }
 {
-    match spot {
-        Spot::At { x: _, y: _ } => 1,
-        Spot::Off => 0,
-    }
+    usize::from(spot.is_some())
 }
 
 fn fill(seam: Seam, x: u32, y: u32, z: u8, end: u32, out: &mut [u64])
@@ -113,69 +108,52 @@ fn fill(seam: Seam, x: u32, y: u32, z: u8, end: u32, out: &mut [u64])
         ++ drop (length (gather (near_of seam x y z) (order_of seam))) out.old }
 {
     let mut n = 0;
-    let mut k = 0;
-    while k < 8 {
-        n = put(out, n, z, spot_at(seam, x, y, z, end, k));
-        k += 1;
+    for s in seam.squares() {
+        n = put(out, n, spot_at(seam, x, y, z, end, s));
     }
 }
 
 // The entry of a square's tile goes to place n of the list, and n to the next; nothing changes where the square is off the map.
-fn put(out: &mut [u64], n: usize, z: u8, spot: Spot) -> usize
-    requires spot_on_map { SpotOnMap z spot }
-    requires spot_in_bounds { n + length (spot_tiles z spot) ≤ length out.old }
-    ensures value { result ≡ n + length (spot_tiles z spot) }
-    ensures out_after { out.new ≡ pasted n (entries_of (spot_tiles z spot)) out.old }
+fn put(out: &mut [u64], n: usize, spot: Option<Tile>) -> usize
+    requires spot_on_map { SpotOnMap spot }
+    requires spot_in_bounds { n + length (spot_tiles spot) ≤ length out.old }
+    ensures value { result ≡ n + length (spot_tiles spot) }
+    ensures out_after { out.new ≡ pasted n (entries_of (spot_tiles spot)) out.old }
 {
     match spot {
-        Spot::At { x, y } => {
-            out[n] = ids::entry(x, y, z);
+        Some(t) => {
+            out[n] = ids::entry(t.x, t.y, t.z);
             n + 1
         }
-        Spot::Off => n,
+        None => n,
     }
 }
 
-// What stands at the k-th square that is gone through.
-fn spot_at(seam: Seam, x: u32, y: u32, z: u8, end: u32, k: usize) -> Spot
+// The tile of a square of the nine, where that is on the map.
+fn spot_at(seam: Seam, x: u32, y: u32, z: u8, end: u32, s: u8) -> Option<Tile>
     requires on_map { OnMap x y z }
     requires end_value { end ≡ 2 ^ z }
-    requires k_bound { k < 8 }
-    ensures { spot_tiles z result ≡ near_of seam x y z (get_or (order_of seam) k 0) }
+    requires s_bound { s < 9 }
+    ensures { spot_tiles result ≡ near_of seam x y z s }
 {
-    let s = square(seam, k);
-    let across = x + s / 3;
-    let along = y + s % 3;
-    if along < 1 {
-        return Spot::Off;
-    }
-    if end < along {
-        return Spot::Off;
+    let across = x + u32::from(s / 3);
+    let along = y + u32::from(s % 3);
+    if along < 1 || end < along {
+        return None;
     }
     if let Seam::Wrapped = seam {
-        return Spot::At {
+        return Some(Tile {
             x: (across + end - 1) % end,
             y: along - 1,
-        };
+            z,
+        });
     }
-    if across < 1 {
-        return Spot::Off;
+    if across < 1 || end < across {
+        return None;
     }
-    if end < across {
-        return Spot::Off;
-    }
-    Spot::At {
+    Some(Tile {
         x: across - 1,
         y: along - 1,
-    }
-}
-
-fn square(seam: Seam, k: usize) -> u32
-    requires { k < 8 }
-    ensures { result ≡ get_or (order_of seam) k 0 }
-{
-    if let Seam::Wrapped = seam {
-        return AROUND_WRAPPED[k] as u32;
-    }
-    AROUND[k] as u32
+        z,
+    })
 }

@@ -1,6 +1,6 @@
 -- Difference: how many places it needs, and that what is left becomes a list in them.
 use Rattle.std.specs.Prelude.{◌≡◌, List, ◌++◌, map, ℕ, ◌+◌, ◌-◌, ◌*◌, ◌≤◌, ltb, length, take, drop}
-use Rattle.std.proofs.Common.{sym, ap, ◌∙◌, subst, append-nil, arith, le-ltb, length-append, length-drop, take_all, take_at, drop_at, length-take-le}
+use Rattle.std.proofs.Common.{sym, ap, ◌∙◌, subst, append-nil, arith, le-ltb, length-append, take_all, take_at, drop_at, length-take-le}
 use Rattle.std.proofs.lemmas.List.{length-map}
 use Rattle.std.proofs.lemmas.List.Edits.{sets}
 use Rattle.constants.specs.Limits.{max_zoom}
@@ -9,7 +9,7 @@ use Rattle.difference.specs.Left.{without}
 use Rattle.difference.specs.Order.{without_runs}
 use Rattle.difference.specs.Walk.{sets_front}
 use Rattle.overlay.specs.Overlay.{TwoSets, left_set, left_entries, LeftIn}
-use Rattle.overlay.specs.Parts.{rest_from, rest_all, first_length}
+use Rattle.overlay.specs.Parts.{first_length}
 use Rattle.overlay.specs.Runs.{runs_numbers, runs_count}
 use Rattle.quadtree.specs.Lists.{TileNumbers}
 use Rattle.quadtree.specs.Locations.{Runs}
@@ -28,23 +28,23 @@ module _ {locations : List ℕ} {n : ℕ} (p : TwoSets locations n) where
   abbrev entries : List ℕ
   entries = left_entries (take n locations) (drop n locations)
 
-  pub most_places : (room : ℕ) → n + 3 * (max_zoom * (length locations - n)) ≤ room
-      → ltb room (n + 3 * (max_zoom * (length locations - n))) ≡ ltb room (length entries)
+  pub most_places : (room : ℕ) → n + 3 * (max_zoom * length (drop n locations)) ≤ room
+      → ltb room (n + 3 * (max_zoom * length (drop n locations))) ≡ ltb room (length entries)
   most_places room h =
       let bound = left_bound (take n locations) (drop n locations) p.first p.second in
-      le-ltb room _ h ∙ sym (le-ltb room (length entries) (omega (arith, rw (← first_length p, length-drop n locations) at bound)))
+      le-ltb room _ h ∙ sym (le-ltb room (length entries) (omega (arith, rw (← first_length p) at bound)))
 
   -- what was counted
-  module _ {count : ℕ} (counted : count ≡ length (without (take n locations) (rest_from n locations))) where
+  module _ {count : ℕ} (counted : count ≡ length (without (take n locations) (drop n locations))) where
     as_many : count ≡ length entries
-    as_many = rw (rest_all n locations) at counted ∙ sym (left_count (take n locations) (drop n locations) p.first)
+    as_many = counted ∙ sym (left_count (take n locations) (drop n locations) p.first)
 
     pub left_places : (room : ℕ) → ltb room count ≡ ltb room (length entries)
     left_places room = ap (ltb room) as_many
 
     -- and written, where there is room for it
     module _ (before : List ℕ) {after : List ℕ}
-        (written : after ≡ sets before 0 (map location_of (without (take n locations) (rest_from n locations))))
+        (written : after ≡ sets before 0 (map location_of (without (take n locations) (drop n locations))))
         (room : length entries ≤ length before) where
       abbrev left : List ℕ
       left = map location_of (without (take n locations) (drop n locations))
@@ -57,7 +57,7 @@ module _ {locations : List ℕ} {n : ℕ} (p : TwoSets locations n) where
 
       front : after ≡ left ++ drop count before
       front =
-          rw (rest_all n locations) at written
+          written
           ∙ (sets_front before left (omega (arith, many, as_many, room)) ∙ ap (λ (i : ℕ). left ++ drop i before) many)
 
       front_left : take count after ≡ left

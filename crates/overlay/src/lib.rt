@@ -10,6 +10,8 @@ ghost use Rattle.tile_list.specs.Finish.{Listed};
 use constants::MAX_ZOOM;
 use quadtree::Key;
 
+// `keys`, `n` and `both` stay apart: these contracts are public and fixed, and speak of all of `keys`, before and after.
+
 // What lies in either set. The first `both` keys are the locations of the two, the first n of them the first set's. In the end all keys
 // are scratch: the more there are, the faster the last sort.
 pub fn union(keys: &mut [u64], n: usize, both: usize, out: &mut [u64]) -> usize
@@ -17,8 +19,8 @@ pub fn union(keys: &mut [u64], n: usize, both: usize, out: &mut [u64]) -> usize
     ensures { Listed (union_set (take n (take both keys.old)) (drop n (take both keys.old)))
         out.new result }
 {
-    let locations = &keys[..both];
-    exchange::merge(&locations[..n], &locations[n..], out);
+    let (first, second) = keys[..both].split_at(n);
+    exchange::merge(first, second, out);
     let count = settle::settle(out, 0);
     tile_list::finish(out, count, keys, Key::Location)
 }
@@ -29,8 +31,8 @@ pub fn common_part(keys: &mut [u64], n: usize, both: usize, out: &mut [u64]) -> 
     ensures { Listed (common_set (take n (take both keys.old)) (drop n (take both keys.old)))
         out.new result }
 {
-    let locations = &keys[..both];
-    let count = common::common(&locations[..n], &locations[n..], out);
+    let (first, second) = keys[..both].split_at(n);
+    let count = common::common(first, second, out);
     tile_list::finish(out, count, keys, Key::Location)
 }
 
@@ -40,12 +42,12 @@ pub fn left_places(locations: &[u64], n: usize, room: usize) -> usize
     requires { TwoSets locations.now n × (length locations.now ≤ 2 * max_entries) }
     ensures { ltb room result ≡ ltb room (length (left_entries (take n locations.now) (drop n locations.now))) }
 {
-    let most = n + 3 * (MAX_ZOOM as usize * (locations.len() - n));
+    let (first, second) = locations.split_at(n);
+    let most = n + 3 * (MAX_ZOOM as usize * second.len());
     if most <= room {
         return most;
     }
-    let mut none = [0u64; 1];
-    difference::left(&locations[..n], &locations[n..], &mut none)
+    difference::left(first, second, &mut [])
 }
 
 // What lies in the first set and not in the second. Memory behind it stays as it was.
@@ -55,7 +57,7 @@ pub fn difference(keys: &mut [u64], n: usize, both: usize, out: &mut [u64]) -> u
     ensures { LeftIn (take n (take both keys.old)) (drop n (take both keys.old)) out.old
         out.new result }
 {
-    let locations = &keys[..both];
-    let count = difference::left(&locations[..n], &locations[n..], out);
+    let (first, second) = keys[..both].split_at(n);
+    let count = difference::left(first, second, out);
     tile_list::finish(&mut out[..count], count, keys, Key::Location)
 }

@@ -1,7 +1,6 @@
 -- What the cursor comes to, and that the Rust's does the same. Nothing is assumed.
-use Rattle.std.specs.Prelude.{◌≡◌, refl, List, [], ◌∷◌, ℕ, zero, suc, ◌+◌, ◌-◌, ◌/◌, ◌^◌, ◌≤◌, ◌<◌, length, get_or}
+use Rattle.std.specs.Prelude.{◌≡◌, refl, List, [], ◌∷◌, ℕ, zero, suc, ◌+◌, ◌-◌, ◌/◌, ◌^◌, ◌≤◌, ◌<◌, length, get_or, Some, None, Option}
 use Rattle.std.proofs.Common.{ap, ◌∙◌, arith, shr-shr}
-use Rattle.std.proofs.Math.Option.{Option, none, some}
 use Rattle.bits.specs.Checked.{returns, read}
 use Rattle.fns.specs.Laws.{half_on_map}
 use Rattle.fns.specs.Rust.{rust_parent}
@@ -10,9 +9,7 @@ use Rattle.tile.specs.OnMap.{OnMap, tile_at, no_tile_of, on_map_accepted}
 use Rattle.tile.specs.Rust.{To29, to_29_on_map}
 use Rattle.tile.specs.declared.Tile.{Tile}
 use Rattle.parent.specs.Parents.{above_of, iter_of, parents_next_of}
-use Rattle.parent.specs.Rust.{rust_iter_parents, rust_parents_next, option_tile, as_parents, as_next, CursorTo29, ended, at_tile}
-use Rattle.parent.specs.declared.OptionTile.{OptionTile}
-use Rattle.parent.specs.declared.OptionTile.TheVariants.{None, Some}
+use Rattle.parent.specs.Rust.{rust_iter_parents, rust_parents_next, as_parents, as_next, CursorTo29, ended, at_tile}
 
 -- the proper ancestors of a tile, nearest first
 pub ancestors : ℕ → ℕ → ℕ → List Tile
@@ -20,11 +17,11 @@ ancestors x y zero = []
 ancestors x y (suc z) = tile_at (x / 2) (y / 2) z ∷ ancestors (x / 2) (y / 2) z
 
 -- what a cursor gives in so many turns
-pub gives : ℕ → OptionTile → List Tile
+pub gives : ℕ → Option Tile → List Tile
 gives zero cursor = []
 gives (suc turns) cursor = kept (parents_next_of cursor).value.tile (gives turns (parents_next_of cursor).value.rest.current)
   where
-    kept : OptionTile → List Tile → List Tile
+    kept : Option Tile → List Tile → List Tile
     kept None ts = ts
     kept (Some t) ts = t ∷ ts
 
@@ -62,21 +59,21 @@ nearest_first x y (suc z) (suc k) h =
     shift a = let e : 1 + (1 + k) ≡ 1 + suc k = omega arith in shr-shr a 1 (1 + k) ∙ ap (λ (n : ℕ). a / 2 ^ n) e
 
 -- The Rust, by the functions of Rust.antt: `iter_parents`, and `next` of every cursor that comes of it
-above_is : (x y z : ℕ) → To29 x y z → (up : Option Tile) × (rust_parent x y z 0 ≡ returns up) × (option_tile up ≡ above_of x y z)
-above_is x y zero m = (none, rust_root x y, refl)
+above_is : (x y z : ℕ) → To29 x y z → (up : Option Tile) × (rust_parent x y z 0 ≡ returns up) × (up ≡ above_of x y z)
+above_is x y zero m = (None, rust_root x y, refl)
 above_is x y (suc z) m =
     let e : suc z - 1 ≡ z = omega arith in
-    (some (tile_at (x / 2) (y / 2) z), rw e at (rust_nearest x y (suc z) m (omega arith)), refl)
+    (Some (tile_at (x / 2) (y / 2) z), rw e at (rust_nearest x y (suc z) m (omega arith)), refl)
 
 pub rust_iter_parents_lem : (x y z : ℕ) → To29 x y z → read as_parents (rust_iter_parents x y z) ≡ returns (iter_of x y z)
 rust_iter_parents_lem x y z m = let a = above_is x y z m in rw (a.1, a.2, on_map_accepted (to_29_on_map m))
 
 pub rust_next_lem : (cursor : Option Tile) → CursorTo29 cursor
-    → read as_next (rust_parents_next cursor) ≡ returns (parents_next_of (option_tile cursor))
+    → read as_next (rust_parents_next cursor) ≡ returns (parents_next_of cursor)
 rust_next_lem cursor ended = refl
 rust_next_lem cursor (at_tile t m) = let a = above_is t.x t.y t.z m in rw (a.1, a.2, on_map_accepted (to_29_on_map m))
 
 -- those are all: what follows a tile of zoom 0 to 29 is one, or the end
 pub rust_cursors : (x y z : ℕ) → To29 x y z → (up : Option Tile) × (rust_parent x y z 0 ≡ returns up) × CursorTo29 up
-rust_cursors x y zero m = (none, rust_root x y, ended)
-rust_cursors x y (suc z) m = (some _, rust_nearest x y (suc z) m (omega arith), at_tile _ (half_to_29 m (omega arith)))
+rust_cursors x y zero m = (None, rust_root x y, ended)
+rust_cursors x y (suc z) m = (Some _, rust_nearest x y (suc z) m (omega arith), at_tile _ (half_to_29 m (omega arith)))

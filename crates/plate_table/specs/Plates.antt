@@ -1,7 +1,7 @@
 -- Document 01's plates as one table, `table`, under one statement, `Plates`; the theorem is `plates` of proofs/Plates.antt, and nothing is
 -- assumed. A row has the paper's words, what the definition in a call's promise gives, and what the paper says. The lines that the paper
 -- marks † are all here, and three of its others; the last is as document 02, K2, changes it.
-use Rattle.std.specs.Prelude.{◌≡◌, [], ◌∷◌, ◌+◌, ◌-◌, ◌^◌}
+use Rattle.std.specs.Prelude.{◌≡◌, [], ◌∷◌, ◌+◌, ◌-◌, ◌^◌, Some, None, unwrap_or}
 use Rattle.errors.specs.Answer.{written}
 use Rattle.fns.specs.Fns.{parent_of}
 use Rattle.ids.specs.Entry.{entries_of}
@@ -13,9 +13,7 @@ use Rattle.neighbors.specs.declared.Seam.TheVariants.{Cut}
 use Rattle.siblings.specs.Siblings.{siblings_written}
 use Rattle.plate_table.specs.Rows.{Row, row, key, entries_of_keys, answered_with, refused, keeps, ranges}
 use Rattle.quadkey.specs.Key.{key_written}
-use Rattle.tile.specs.Option.{unwrap_or}
 use Rattle.tile.specs.OnMap.{tile_at, no_tile_of}
-use Rattle.tile.specs.declared.OptionU8.TheVariants.{None, Some}
 use Rattle.tile_zbox.specs.Box.{box_at, length_of}
 use Rattle.zoom.specs.Zooms.{zvec_set, zooms_of}
 use Rattle.zoom_ranges.specs.Ranges.{ranges_of}

@@ -1,7 +1,6 @@
 -- `quadkey.rs` as functions on values, in the Rust's own widths and with its checks, and that its answers are those of the definitions.
-use Rattle.std.specs.Prelude.{◌≡◌, refl, Bool, true, false, cond, not, ◌&&◌, ◌||◌, List, [], ◌∷◌, map, ℕ, zero, suc, ◌+◌, ◌-◌, ◌*◌, ◌/◌, ◌%◌, ◌^◌, ◌≤◌, ◌<◌, leb, ltb, eqb, length}
+use Rattle.std.specs.Prelude.{◌≡◌, refl, Bool, true, false, cond, not, ◌&&◌, ◌||◌, List, [], ◌∷◌, map, ℕ, zero, suc, ◌+◌, ◌-◌, ◌*◌, ◌/◌, ◌%◌, ◌^◌, ◌≤◌, ◌<◌, leb, ltb, eqb, length, Option, None, Some, unwrap_or}
 use Rattle.std.proofs.Common.{ap, le_trans, mod-eq_of_lt, pow-suc, div-one, add-one, arith, pow_mono, pow_pos, leb-true, leb-false, le-leb, ltb-true, lt-ltb, le-ltb, eq-eqb, ne_eqb}
-use Rattle.std.proofs.Math.Option.{Option, none, some, get_or}
 use Rattle.std.specs.Int.Bits.{bit_and, bit_or, bit_xor}
 use Rattle.std.proofs.lemmas.Nat.{and_mask, or_shifted}
 use Rattle.std.proofs.lemmas.Nat.Bits.{and_high}
@@ -115,20 +114,20 @@ quadkey2xyz key = unless_error (key_try_new key) (to_xyz key)
 
 -- `from_char`, `flipy`, `as_char` of one character
 abbrev pub flip_char : ℕ → Option ℕ
-flip_char b = cond (eqb b 48) (some 50) (cond (eqb b 49) (some 51) (cond (eqb b 50) (some 48) (cond (eqb b 51) (some 49) none)))
+flip_char b = cond (eqb b 48) (Some 50) (cond (eqb b 49) (Some 51) (cond (eqb b 50) (Some 48) (cond (eqb b 51) (Some 49) None)))
 
 abbrev pub pushed : Option ℕ → Option (List ℕ) → Option (List ℕ)
-pushed none cs = none
-pushed (some c) none = none
-pushed (some c) (some cs) = some (c ∷ cs)
+pushed None cs = None
+pushed (Some c) None = None
+pushed (Some c) (Some cs) = Some (c ∷ cs)
 
 unfoldable pub flip_chars : List ℕ → Option (List ℕ)
-flip_chars [] = some []
+flip_chars [] = Some []
 flip_chars (b ∷ bs) = pushed (flip_char b) (flip_chars bs)
 
 -- `quadkey_flipy`: the empty string where a character is no digit
 abbrev pub flip_string : List ℕ → List ℕ
-flip_string key = get_or (flip_chars key) []
+flip_string key = unwrap_or (flip_chars key) []
 
 -- the mask of a bit tests the bit
 pub bit_is_set : (n i : ℕ) → bit n i ≡ cond (is_set n (2 ^ i)) 1 0
@@ -336,31 +335,31 @@ iter_is_tile (b ∷ bs) e h =
     rw (short_length key h, ne_eqb (length key) 0 (λ e. omega arith)) (rw (x, y, c) at f)
 
 -- a character that is flipped is the flipped digit; any other has none
-pub flip_char_lem : (b : ℕ) → is_digit b ≡ true → flip_char b ≡ some (flip_digit b)
-flip_char_lem = by_digit (λ b. flip_char b ≡ some (flip_digit b)) refl refl refl refl
+pub flip_char_lem : (b : ℕ) → is_digit b ≡ true → flip_char b ≡ Some (flip_digit b)
+flip_char_lem = by_digit (λ b. flip_char b ≡ Some (flip_digit b)) refl refl refl refl
 
-pub no_char : (b : ℕ) → is_digit b ≡ false → flip_char b ≡ none
+pub no_char : (b : ℕ) → is_digit b ≡ false → flip_char b ≡ None
 no_char b e = rw (ne_eqb b 48 (other 48 refl), ne_eqb b 49 (other 49 refl), ne_eqb b 50 (other 50 refl), ne_eqb b 51 (other 51 refl))
   where
     other : (c : ℕ) → is_digit c ≡ true → b ≡ c → ⊥
     other c f p = let g : is_digit c ≡ false = rw p at e in let z : ◌≡◌ {A = ℕ} 0 1 = cc in omega arith
 
-flip_chars_lem : (key : List ℕ) → all_digits_of key ≡ true → flip_chars key ≡ some (map flip_digit key)
+flip_chars_lem : (key : List ℕ) → all_digits_of key ≡ true → flip_chars key ≡ Some (map flip_digit key)
 unfolding flip_chars
 flip_chars_lem [] e = refl
 flip_chars_lem (b ∷ bs) e = let p = digits_first b bs e in rw (flip_char_lem b p.0, flip_chars_lem bs p.1)
 
-no_chars : (key : List ℕ) → all_digits_of key ≡ false → flip_chars key ≡ none
+no_chars : (key : List ℕ) → all_digits_of key ≡ false → flip_chars key ≡ None
 unfolding flip_chars all_digits_of
 no_chars [] e = let z : ◌≡◌ {A = ℕ} 0 1 = cc in absurd (omega arith)
 no_chars (b ∷ bs) e = pick (is_digit b) refl e (no_chars bs)
   where
-    push_none : (c : Option ℕ) → pushed c none ≡ none
-    push_none none = refl
-    push_none (some c) = refl
+    push_none : (c : Option ℕ) → pushed c None ≡ None
+    push_none None = refl
+    push_none (Some c) = refl
 
-    pick : (p : Bool) → is_digit b ≡ p → p && all_digits_of bs ≡ false → (all_digits_of bs ≡ false → flip_chars bs ≡ none)
-        → pushed (flip_char b) (flip_chars bs) ≡ none
+    pick : (p : Bool) → is_digit b ≡ p → p && all_digits_of bs ≡ false → (all_digits_of bs ≡ false → flip_chars bs ≡ None)
+        → pushed (flip_char b) (flip_chars bs) ≡ None
     pick false q e more = rw (no_char b q)
     pick true q e more = rw (more e) (push_none (flip_char b))
 

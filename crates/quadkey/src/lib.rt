@@ -8,71 +8,62 @@ ghost use Rattle.quadkey.specs.Key.{digit_at, key_from, key_written, is_digit, a
 ghost use Rattle.quadkey.specs.Key.{flip_written};
 
 use constants::MAX_ZOOM;
-use errors::{Check, Count, Refusal};
+use errors::Refusal;
 
 // Whether a byte is a digit of a key.
 pub fn is_quadkey_byte(b: u8) -> bool
     ensures { result ≡ is_digit b }
 {
-    b'0' <= b && b <= b'3'
+    matches!(b, b'0'..=b'3')
 }
 
 // Whether the bytes are a key: the length is tested before the bytes.
-pub fn check(key: &[u8]) -> Check
+pub fn check(key: &[u8]) -> Result<(), Refusal>
     ensures { check_number result ≡ key_refusal key.now }
 {
     if key.len() > MAX_ZOOM as usize {
-        return Check::Refused(Refusal::KeyLength);
+        return Err(Refusal::KeyLength);
     }
-    let mut i = 0;
-    while i < key.len() {
-        if !is_quadkey_byte(key[i]) {
-            return Check::Refused(Refusal::KeyByte);
+    for b in key {
+        if !is_quadkey_byte(*b) {
+            return Err(Refusal::KeyByte);
         }
-        i += 1;
     }
-    Check::Fine
+    Ok(())
 }
 
 // Whether the bytes are a key, told as yes or no.
 pub fn is_quadkey(key: &[u8]) -> bool
     ensures { result ≡ is_key key.now }
 {
-    match check(key) {
-        Check::Fine => true,
-        Check::Refused(_) => false,
-    }
+    check(key).is_ok()
 }
 
 // The key of a tile, as bytes 48 to 51.
-pub fn xyz2quadkey(x: u32, y: u32, z: u8, out: &mut [u8]) -> Count
+pub fn xyz2quadkey(x: u32, y: u32, z: u8, out: &mut [u8]) -> Result<usize, Refusal>
     ensures { left result out.new ≡ key_written 48 x y z out.old }
 {
     digits(b'0', x, y, z, out)
 }
 
 // The key of a tile, as the digits 0 to 3.
-pub fn xyz2quadkey_vec(x: u32, y: u32, z: u8, out: &mut [u8]) -> Count
+pub fn xyz2quadkey_vec(x: u32, y: u32, z: u8, out: &mut [u8]) -> Result<usize, Refusal>
     ensures { left result out.new ≡ key_written 0 x y z out.old }
 {
     digits(0, x, y, z, out)
 }
 
-fn digits(base: u8, x: u32, y: u32, z: u8, out: &mut [u8]) -> Count
+fn digits(base: u8, x: u32, y: u32, z: u8, out: &mut [u8]) -> Result<usize, Refusal>
     requires { base < 253 }
     ensures { left result out.new ≡ key_written base x y z out.old }
 {
-    match tile::check(x, y, z) {
-        Check::Fine => {
-            let n = z as usize;
-            if out.len() < n {
-                return Count::Refused(Refusal::Memory);
-            }
-            fill(base, x, y, z, out);
-            Count::Counted(n)
-        }
-        Check::Refused(why) => Count::Refused(why),
+    tile::check(x, y, z)?;
+    let n = z as usize;
+    if out.len() < n {
+        return Err(Refusal::Memory);
     }
+    fill(base, x, y, z, out);
+    Ok(n)
 }
 
 fn fill(base: u8, x: u32, y: u32, z: u8, out: &mut [u8])
@@ -81,11 +72,8 @@ fn fill(base: u8, x: u32, y: u32, z: u8, out: &mut [u8])
     requires z_in_bounds { z ≤ length out.old }
     ensures { out.new ≡ key_from base x y z ++ drop z out.old }
 {
-    let mut i: u8 = 0;
-    while i < z {
-        let at = i as usize;
-        out[at] = base + digit(x, y, z - 1 - i);
-        i += 1;
+    for i in 0..z {
+        out[i as usize] = base + digit(x, y, z - 1 - i);
     }
 }
 
@@ -97,20 +85,16 @@ fn digit(x: u32, y: u32, i: u8) -> u8
 }
 
 // The key with 0 and 2, 1 and 3 in each other's place: the row is counted from the other side.
-pub fn quadkey_flipy(key: &[u8], out: &mut [u8]) -> Count
+pub fn quadkey_flipy(key: &[u8], out: &mut [u8]) -> Result<usize, Refusal>
     ensures { left result out.new ≡ flip_written key.now out.old }
 {
-    match check(key) {
-        Check::Fine => {
-            let n = key.len();
-            if out.len() < n {
-                return Count::Refused(Refusal::Memory);
-            }
-            flip_all(key, out);
-            Count::Counted(n)
-        }
-        Check::Refused(why) => Count::Refused(why),
+    check(key)?;
+    let n = key.len();
+    if out.len() < n {
+        return Err(Refusal::Memory);
     }
+    flip_all(key, out);
+    Ok(n)
 }
 
 fn flip_all(key: &[u8], out: &mut [u8])
@@ -118,10 +102,8 @@ fn flip_all(key: &[u8], out: &mut [u8])
     requires key_value { all_digits_of key.now ≡ true }
     ensures { out.new ≡ map flip_digit key.now ++ drop (length key.now) out.old }
 {
-    let mut i = 0;
-    while i < key.len() {
-        out[i] = flipped(key[i]);
-        i += 1;
+    for (i, b) in key.iter().enumerate() {
+        out[i] = flipped(*b);
     }
 }
 

@@ -8,10 +8,11 @@ ghost use Rattle.quadtree.specs.Locations.{IsLocation, low_of};
 ghost use Rattle.quadtree.specs.Numbers.{OfMap, morton_of, location_of, rank_of, zoom_in, even_bits, morton_tile, location_tile};
 
 use constants::MAX_ZOOM;
-use tile::{Tile, TileAnswer};
+use tile::Tile;
 
-// The number of a tile that a list is sorted by.
-#[derive(Clone, Copy)]
+// The number of a tile that a list is sorted by. The contracts of all that sort by it name it as a value, so it is no function that is
+// passed.
+#[derive(Clone, Copy, Debug, PartialEq, Eq)]
 pub enum Key {
     Location,
     Morton,
@@ -124,30 +125,25 @@ pub fn keys(list: &[u64], keys: &mut [u64], by: Key) -> bool
     requires { length list.now ≡ length keys.old }
     ensures { Keyed by list.now keys.new result }
 {
-    let mut i = 0;
-    while i < list.len() {
-        match ids::entry_tile(list[i]) {
-            TileAnswer::Found(t) => {
-                keys[i] = key_of(t, by);
-            }
-            TileAnswer::Refused(_) => {
-                return false;
-            }
-        }
-        i += 1;
+    // What is proved is how far the keys have come, so the index is named; a `zip` with the keys would be no plainer.
+    for (i, entry) in list.iter().enumerate() {
+        let Ok(t) = ids::entry_tile(*entry) else {
+            return false;
+        };
+        keys[i] = key_of(t, by);
     }
     true
 }
+
+// These two, as much in the crates above, require `TileNumbers`: as the ghost field of a struct it would have to be true at each write.
 
 // Keys become ranks.
 pub fn ranks(keys: &mut [u64], by: Key)
     requires { TileNumbers (sort_key by) keys.old }
     ensures { keys.new ≡ map (key_rank by) keys.old }
 {
-    let mut i = 0;
-    while i < keys.len() {
-        keys[i] = rank(keys[i], by);
-        i += 1;
+    for key in keys.iter_mut() {
+        *key = rank(*key, by);
     }
 }
 
@@ -157,12 +153,10 @@ pub fn entries(ranks: &mut [u64])
     ensures { ranks.new ≡ map rank_entry ranks.old }
 {
     let mut z = 0;
-    let mut i = 0;
-    while i < ranks.len() {
-        let r = ranks[i];
+    for number in ranks.iter_mut() {
+        let r = *number;
         z = zoom_from(r, z);
-        ranks[i] = entry_of_rank(r, z);
-        i += 1;
+        *number = entry_of_rank(r, z);
     }
 }
 

@@ -1,126 +1,155 @@
 // Whether a call answered what the list says: the refusal's number, 0 for none, then the values, which are zeros where it is refused.
-use crate::{lists, parse, parts};
-use errors::{BoolAnswer, Check, Count, Refusal, U32Answer, U64Answer};
-use tile::TileAnswer;
+use crate::entries;
+use errors::Refusal;
+use tile::{Next, Tile};
 
-// What lent bytes are filled with before a call: no zoom and no digit, and not 0. Of lists of tiles it is `entries::BLANK`.
-pub const BLANK: u8 = 191;
+// What can be lent to a call to write a list into, and what it is filled with before the call.
+pub trait Lent: Copy {
+    const BLANK: Self;
+
+    fn number(self) -> u64;
+}
+
+// No zoom and no digit, and not 0.
+impl Lent for u8 {
+    const BLANK: u8 = 191;
+
+    fn number(self) -> u64 {
+        u64::from(self)
+    }
+}
+
+impl Lent for u64 {
+    const BLANK: u64 = entries::BLANK;
+
+    fn number(self) -> u64 {
+        self
+    }
+}
 
 // Whether the list says that the call is accepted, with these values.
 pub fn accepted(values: &[u64], want: &[u64]) -> bool {
-    if !says(want, 0, values.len()) {
-        return false;
+    match want {
+        [0, said @ ..] => said == values,
+        _ => false,
     }
-    let mut i = 0;
-    while i < values.len() {
-        if values[i] != entry(want, i + 1) {
-            return false;
-        }
-        i += 1;
-    }
-    true
 }
 
 // Whether the list says that the call is refused so, and that its value is so many zeros.
 pub fn refused(why: Refusal, values: usize, want: &[u64]) -> bool {
-    if !says(want, errors::number(why), values) {
-        return false;
-    }
-    let mut i = 1;
-    while i < want.len() {
-        if want[i] != 0 {
-            return false;
+    match want {
+        [number, said @ ..] => {
+            *number == u64::from(errors::number(why))
+                && said.len() == values
+                && said.iter().all(|n| *n == 0)
         }
-        i += 1;
+        [] => false,
     }
-    true
 }
 
 // The answer of a check, held to the line of a call that has a value too: only the number is compared.
-pub fn same_check(answer: Check, want: &[u64]) -> bool {
-    if want.len() == 0 {
+pub fn same_check(answer: Result<(), Refusal>, want: &[u64]) -> bool {
+    match want {
+        [number, ..] => *number == u64::from(errors::check_number(answer)),
+        [] => false,
+    }
+}
+
+// The answer of a call that gives so many values.
+pub fn same<const N: usize>(answer: Result<[u64; N], Refusal>, want: &[u64]) -> bool {
+    match answer {
+        Ok(values) => accepted(&values, want),
+        Err(why) => refused(why, N, want),
+    }
+}
+
+// The answer of a call that gives one number, or says yes or no.
+pub fn same_number<T: Into<u64>>(answer: Result<T, Refusal>, want: &[u64]) -> bool {
+    same(answer.map(|n| [n.into()]), want)
+}
+
+pub fn same_tile(answer: Result<Tile, Refusal>, want: &[u64]) -> bool {
+    same(
+        answer.map(|t| [u64::from(t.x), u64::from(t.y), u64::from(t.z)]),
+        want,
+    )
+}
+
+// The entries behind these values, if the list says that the call is accepted, with these and so many entries.
+pub fn behind<'a>(values: &[u64], count: usize, want: &'a [u64]) -> Option<&'a [u64]> {
+    match want {
+        [0, said @ ..] => said
+            .strip_prefix(values)
+            .filter(|entries| entries.len() == count),
+        _ => None,
+    }
+}
+
+// Whether a call that wrote a list into lent memory, all blank before, gave the count and left there the entries that the list says. It
+// sets the places up to the n-th, those behind its entries to 0; with n = 0 it sets none behind them.
+pub fn same_list<T: Lent>(
+    answer: Result<usize, Refusal>,
+    n: usize,
+    out: &[T],
+    want: &[u64],
+) -> bool {
+    match answer {
+        Ok(count) => match behind(&[count as u64], count, want) {
+            Some(entries) => holds(out, entries, n),
+            None => false,
+        },
+        Err(why) => refused(why, 1, want) && holds(out, &[], 0),
+    }
+}
+
+// The answer of a call that writes bytes, of which the list has fewer than there are places.
+pub fn same_bytes<F: FnOnce(&mut [u8]) -> Result<usize, Refusal>>(call: F, want: &[u64]) -> bool
+    requires { F.IsAlwaysCallable call }
+{
+    let mut out = [u8::BLANK; 64];
+    let answer = call(&mut out);
+    same_list(answer, 0, &out, want)
+}
+
+// Whether the memory holds these entries, then 0 up to n places, and is blank behind them.
+pub fn holds<T: Lent>(out: &[T], entries: &[u64], n: usize) -> bool {
+    let Some((front, rest)) = out.split_at_checked(entries.len()) else {
         return false;
-    }
-    match answer {
-        Check::Fine => want[0] == 0,
-        Check::Refused(why) => want[0] == errors::number(why) as u64,
-    }
+    };
+    let cleared = n.saturating_sub(entries.len()).min(rest.len());
+    let (zeros, blank) = rest.split_at(cleared);
+    front
+        .iter()
+        .zip(entries)
+        .all(|(held, entry)| held.number() == *entry)
+        && zeros.iter().all(|held| held.number() == 0)
+        && blank.iter().all(|held| held.number() == T::BLANK.number())
 }
 
-// The answer of a call that says yes or no, and is never refused.
-pub fn same_bool(answer: bool, want: &[u64]) -> bool {
-    accepted(&[answer as u64], want)
-}
-
-pub fn same_told(answer: BoolAnswer, want: &[u64]) -> bool {
-    match answer {
-        BoolAnswer::Told(told) => same_bool(told, want),
-        BoolAnswer::Refused(why) => refused(why, 1, want),
-    }
-}
-
-pub fn same_tile(answer: TileAnswer, want: &[u64]) -> bool {
-    match answer {
-        TileAnswer::Found(t) => accepted(&[t.x as u64, t.y as u64, t.z as u64], want),
-        TileAnswer::Refused(why) => refused(why, 3, want),
-    }
-}
-
-pub fn same_u32(answer: U32Answer, want: &[u64]) -> bool {
-    match answer {
-        U32Answer::Number(n) => accepted(&[n as u64], want),
-        U32Answer::Refused(why) => refused(why, 1, want),
-    }
-}
-
-pub fn same_u64(answer: U64Answer, want: &[u64]) -> bool {
-    match answer {
-        U64Answer::Number(n) => accepted(&[n], want),
-        U64Answer::Refused(why) => refused(why, 1, want),
-    }
-}
-
-// Whether a call that wrote a list of bytes into lent memory, all `BLANK` before, gave the count and the entries that the list says, and
-// left the places past them as they were.
-pub fn same_bytes(answer: Count, out: &[u8], want: &[u64]) -> bool {
-    match answer {
-        Count::Counted(n) => {
-            lists::accepted(&[n as u64], n, want) && listed(out, parts::numbers(want, 2, n))
+// The answer of a cursor that is run to its end: its tiles, of which the list has fewer than there are places.
+pub fn same_walk<C: Drop, F: Fn(C) -> Result<Next<C>, Refusal>>(
+    start: C,
+    next: F,
+    want: &[u64],
+) -> bool
+    requires { F.IsAlwaysCallable next }
+{
+    let mut out = [entries::BLANK; 64];
+    let mut cursor = start;
+    for i in 0..64 {
+        match next(cursor) {
+            Ok(
+                Next {
+                    tile: Some(t),
+                    rest,
+                },
+            ) => {
+                out[i] = entries::of_tile(t);
+                cursor = rest;
+            }
+            Ok(Next { tile: None, .. }) => return same_list(Ok(i), 0, &out, want),
+            Err(why) => return refused(why, 1, want),
         }
-        Count::Refused(why) => refused(why, 1, want) && listed(out, &[]),
     }
-}
-
-// Whether lent memory, all `BLANK` before, has room for these entries, begins with them, and is as it was past them.
-pub fn listed(out: &[u8], want: &[u64]) -> bool {
-    if want.len() > out.len() {
-        return false;
-    }
-    let mut i = 0;
-    while i < out.len() {
-        if parse::wide(out[i]) != entry(want, i) {
-            return false;
-        }
-        i += 1;
-    }
-    true
-}
-
-// Whether the list says this number, with so many values.
-fn says(want: &[u64], number: u8, values: usize) -> bool {
-    if want.len() == 0 {
-        return false;
-    }
-    if want.len() - 1 != values {
-        return false;
-    }
-    want[0] == number as u64
-}
-
-// What the list says at a place, or `BLANK` past its end.
-fn entry(want: &[u64], i: usize) -> u64 {
-    if i < want.len() {
-        return want[i];
-    }
-    BLANK as u64
+    false
 }

@@ -1,103 +1,49 @@
-// The arguments of a call, taken from its numbers. A caller first tests that they fit their types: what does not is read as 0.
-use crate::parts;
-use tile::{OptionU8, Tile};
+// The arguments of a call, taken from its numbers: None where they do not fit their types.
+use tile::Tile;
 
 // How the list writes None.
 const NONE: u64 = 256;
 
-// How many entries were given.
-#[derive(Clone, Copy)]
-pub enum ListArg {
-    Given(usize),
-    Bad,
+// The tile x y z, on the map or off it.
+pub fn tile(x: u64, y: u64, z: u64) -> Option<Tile> {
+    Some(Tile {
+        x: u32::try_from(x).ok()?,
+        y: u32::try_from(y).ok()?,
+        z: u8::try_from(z).ok()?,
+    })
 }
 
-// Whether there are as many numbers as `kinds` has digits, and each fits its kind: 1 is a byte, 2 a byte or None, 3 a place in the table of
-// doubles, 4 a u32, 8 any number.
-pub fn fit(numbers: &[u64], kinds: u64) -> bool {
-    let mut left = kinds;
-    let mut i = numbers.len();
-    while i > 0 {
-        i -= 1;
-        if left == 0 || numbers[i] > most(left % 10) {
-            return false;
-        }
-        left = left / 10;
+// A byte, or None.
+pub fn option(n: u64) -> Option<Option<u8>> {
+    if n == NONE {
+        return Some(None);
     }
-    left == 0
+    let byte = u8::try_from(n).ok()?;
+    Some(Some(byte))
 }
 
-fn most(kind: u64) -> u64 {
-    match kind {
-        1 => 255,
-        2 => NONE,
-        3 => 11,
-        4 => 4294967295,
-        _ => u64::MAX,
+// The entries of one list, whose count stands before it.
+pub fn one_list(numbers: &[u64]) -> Option<&[u64]> {
+    let (count, list) = numbers.split_first()?;
+    if *count != list.len() as u64 {
+        return None;
     }
+    Some(list)
 }
 
-pub fn number(args: &[u64], i: usize) -> u64 {
-    if i < args.len() {
-        return args[i];
+// The numbers as bytes or words, in the front of `room`.
+pub fn fitted<'a, T: TryFrom<u64> + Drop>(numbers: &[u64], room: &'a mut [T]) -> Option<&'a [T]>
+where
+    T::Error: Drop,
+{
+    let front = room.get_mut(..numbers.len())?;
+    for (place, n) in front.iter_mut().zip(numbers) {
+        *place = T::try_from(*n).ok()?;
     }
-    0
+    Some(front)
 }
 
-pub fn word(args: &[u64], i: usize) -> u32 {
-    let n = number(args, i);
-    if n > 4294967295 { 0 } else { n as u32 }
-}
-
-pub fn byte(args: &[u64], i: usize) -> u8 {
-    let n = number(args, i);
-    if n > 255 { 0 } else { n as u8 }
-}
-
-pub fn option(args: &[u64], i: usize) -> OptionU8 {
-    if number(args, i) == NONE {
-        return OptionU8::None;
-    }
-    OptionU8::Some(byte(args, i))
-}
-
-// The tile x y z at a place, on the map or off it.
-pub fn tile(args: &[u64], i: usize) -> Tile {
-    let xyz = parts::numbers(args, i, 3);
-    Tile {
-        x: word(xyz, 0),
-        y: word(xyz, 1),
-        z: byte(xyz, 2),
-    }
-}
-
-// The arguments are one list of bytes, its count first. The bytes go into the front of `out`.
-pub fn bytes(args: &[u64], out: &mut [u8]) -> ListArg {
-    if args.len() == 0 {
-        return ListArg::Bad;
-    }
-    let n = args.len() - 1;
-    if args[0] != n as u64 {
-        return ListArg::Bad;
-    }
-    if n > out.len() {
-        return ListArg::Bad;
-    }
-    let mut i = 0;
-    while i < n {
-        if args[i + 1] > 255 {
-            return ListArg::Bad;
-        }
-        out[i] = byte(args, i + 1);
-        i += 1;
-    }
-    ListArg::Given(n)
-}
-
-// Whether the arguments are one list, its count first.
-pub fn one_list(args: &[u64]) -> bool {
-    if args.len() == 0 {
-        return false;
-    }
-    args[0] == (args.len() - 1) as u64
+// One list of bytes, in the front of `room`.
+pub fn bytes<'a>(numbers: &[u64], room: &'a mut [u8]) -> Option<&'a [u8]> {
+    fitted(one_list(numbers)?, room)
 }

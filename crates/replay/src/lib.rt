@@ -6,8 +6,4 @@ pub mod answers;
 pub mod args;
 pub mod calls;
 pub mod entries;
-pub mod lines;
-pub mod lists;
-pub mod names;
 pub mod parse;
-pub mod parts;

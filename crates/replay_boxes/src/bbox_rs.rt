@@ -1,58 +1,53 @@
 // Replays the calls of bbox.rs. The list writes a double as its place in a table.
 use bbox::{BBox, BBoxes, LngLat};
-use replay::{answers, args, names, parts};
+use replay::answers;
+use replay::parse::Call;
 
-pub fn replayed(name: &[u8], given: &[u64], want: &[u64]) -> bool {
-    let b = box_at(given, 0);
-    match given.len() {
-        4 => args::fit(given, 3333) && of_box(name, b, want),
-        6 => args::fit(given, 333333) && with_place(name, b, given, want),
-        8 => args::fit(given, 33333333) && with_box(name, b, box_at(given, 4), want),
-        _ => false,
-    }
-}
-
-fn of_box(name: &[u8], b: BBox, want: &[u64]) -> bool {
-    match names::index(name, b"crosses_antimeridian bboxes") {
-        0 => answers::same_bool(b.crosses_antimeridian(), want),
-        1 => same_boxes(b.bboxes(), want),
-        _ => false,
-    }
-}
-
-fn with_place(name: &[u8], b: BBox, given: &[u64], want: &[u64]) -> bool {
-    let lng = degrees(args::number(given, 4));
-    let lat = degrees(args::number(given, 5));
-    check::same(name, b"contains_lnglat")
-        && answers::same_bool(b.contains_lnglat(LngLat { lng, lat }), want)
-}
-
-fn with_box(name: &[u8], b: BBox, other: BBox, want: &[u64]) -> bool {
-    let answer = match names::index(name, b"contains_bbox is_within intersects") {
-        0 => b.contains_bbox(other),
-        1 => b.is_within(other),
-        2 => b.intersects(other),
-        _ => {
-            return false;
+// Whether the call answers what the list says; None where it is no call of this file.
+pub fn replayed(call: Call<'_>) -> Option<bool> {
+    let Call { name, given, want } = call;
+    let (edges, rest) = given.split_at_checked(4)?;
+    let b = box_of(edges)?;
+    match (name, rest) {
+        (b"bboxes", []) => same_boxes(b.bboxes(), want),
+        (b"crosses_antimeridian", []) => Some(same_bool(b.crosses_antimeridian(), want)),
+        (b"contains_lnglat", &[lng, lat]) => {
+            let lng = degrees(lng)?;
+            let lat = degrees(lat)?;
+            Some(same_bool(b.contains_lnglat(LngLat { lng, lat }), want))
         }
+        _ => with_box(name, b, box_of(rest)?, want),
+    }
+}
+
+fn with_box(name: &[u8], b: BBox, other: BBox, want: &[u64]) -> Option<bool> {
+    let answer = match name {
+        b"contains_bbox" => b.contains_bbox(other),
+        b"is_within" => b.is_within(other),
+        b"intersects" => b.intersects(other),
+        _ => return None,
     };
-    answers::same_bool(answer, want)
+    Some(same_bool(answer, want))
+}
+
+// The answer of a call that says yes or no, and is never refused.
+fn same_bool(answer: bool, want: &[u64]) -> bool {
+    answers::accepted(&[u64::from(answer)], want)
 }
 
 // Whether the list says one box or two, and these; with one the second is all zeros.
-fn same_boxes(answer: BBoxes, want: &[u64]) -> bool {
-    let first = answer.first;
-    let second = answer.second;
-    let count = answer.count as u64;
-    if !answers::accepted(&[count], parts::numbers(want, 0, 2))
-        || !same_box(first, box_at(want, 2))
-    {
-        return false;
+fn same_boxes(answer: BBoxes, want: &[u64]) -> Option<bool> {
+    let (front, edges) = want.split_at_checked(2)?;
+    if !answers::accepted(&[u64::from(answer.count)], front) {
+        return None;
     }
-    if count == 1 {
-        return args::fit(want, 883333) && same_box(second, BBox::new(0.0, 0.0, 0.0, 0.0));
-    }
-    args::fit(want, 8833333333) && same_box(second, box_at(want, 6))
+    let (first, rest) = edges.split_at_checked(4)?;
+    let second = match answer.count {
+        1 if rest.is_empty() => BBox::new(0.0, 0.0, 0.0, 0.0),
+        1 => return None,
+        _ => box_of(rest)?,
+    };
+    Some(same_box(answer.first, box_of(first)?) && same_box(answer.second, second))
 }
 
 fn same_box(a: BBox, b: BBox) -> bool {
@@ -70,19 +65,21 @@ fn same_double(a: f64, b: f64) -> bool {
     a != a && b != b
 }
 
-fn box_at(numbers: &[u64], i: usize) -> BBox {
-    let edges = parts::numbers(numbers, i, 4);
-    BBox::new(
-        degrees(args::number(edges, 0)),
-        degrees(args::number(edges, 1)),
-        degrees(args::number(edges, 2)),
-        degrees(args::number(edges, 3)),
-    )
+fn box_of(edges: &[u64]) -> Option<BBox> {
+    let &[west, south, east, north] = edges else {
+        return None;
+    };
+    Some(BBox::new(
+        degrees(west)?,
+        degrees(south)?,
+        degrees(east)?,
+        degrees(north)?,
+    ))
 }
 
 // The double at a place of the table.
-fn degrees(place: u64) -> f64 {
-    match place {
+fn degrees(place: u64) -> Option<f64> {
+    let double = match place {
         0 => 0.0 / 0.0,
         1 => -1.0 / 0.0,
         2 => -180.0,
@@ -94,6 +91,8 @@ fn degrees(place: u64) -> f64 {
         8 => 90.0,
         9 => 179.5,
         10 => 180.0,
-        _ => 1.0 / 0.0,
-    }
+        11 => 1.0 / 0.0,
+        _ => return None,
+    };
+    Some(double)
 }

@@ -1,116 +1,102 @@
 // Replays the calls of zoom.rs.
-use errors::Count;
-use replay::answers::BLANK;
-use replay::args::ListArg;
-use replay::{answers, args, lists, names, parts};
-use zoom::{ZoomSet, ZoomSetAnswer};
+use errors::Refusal;
+use replay::answers::Lent;
+use replay::parse::Call;
+use replay::{answers, args};
+use zoom::ZoomSet;
 
-pub fn replayed(name: &[u8], given: &[u64], want: &[u64]) -> bool {
-    match names::index(name, b"zvec2zset zvec2zset_rev all zoom_max_xy") {
-        0 => of_zooms(name, given, want),
-        1 => of_zooms(name, given, want),
-        2 => given.len() == 0 && says_set(ZoomSet::all(), want),
-        3 => args::fit(given, 1) && zoom_max_xy(args::byte(given, 0), want),
-        _ => of_set(name, given, want),
+// Places enough for the zooms of every line.
+const ROOM: usize = 512;
+// Places enough for the zooms of every set.
+const PLACES: usize = 64;
+
+// Whether the call answers what the list says; None where it is no call of this file.
+pub fn replayed(call: Call<'_>) -> Option<bool> {
+    let Call { name, given, want } = call;
+    match (name, given) {
+        (b"all", []) => Some(same_set(Ok(ZoomSet::all()), want)),
+        (b"zoom_max_xy", &[zoom]) => {
+            let zoom = u8::try_from(zoom).ok()?;
+            Some(answers::same_number(zoom::zoom_max_xy(zoom), want))
+        }
+        (b"zvec2zset", _) => of_zooms(given, want),
+        (b"zvec2zset_rev", _) => of_zooms_rev(given, want),
+        _ => of_sets(name, given, want),
     }
 }
 
-fn of_zooms(name: &[u8], given: &[u64], want: &[u64]) -> bool {
-    let mut room = [0u8; 512];
-    let ListArg::Given(n) = args::bytes(given, &mut room) else {
-        return false;
-    };
-    let zooms = parts::bytes(&room, 0, n);
-    if check::same(name, b"zvec2zset") {
-        return answers::same_u32(zoom::zvec2zset(zooms), want)
-            && same_set(ZoomSet::from_zooms(zooms), want);
-    }
-    answers::same_u32(zoom::zvec2zset_rev(zooms), want)
+fn of_zooms(given: &[u64], want: &[u64]) -> Option<bool> {
+    let mut room = [0; ROOM];
+    let zooms = args::bytes(given, &mut room)?;
+    let same = answers::same_number(zoom::zvec2zset(zooms), want);
+    Some(same && same_set(ZoomSet::from_zooms(zooms), want))
 }
 
-fn zoom_max_xy(zoom: u8, want: &[u64]) -> bool {
-    answers::same_u32(zoom::zoom_max_xy(zoom), want)
+fn of_zooms_rev(given: &[u64], want: &[u64]) -> Option<bool> {
+    let mut room = [0; ROOM];
+    let zooms = args::bytes(given, &mut room)?;
+    Some(answers::same_number(zoom::zvec2zset_rev(zooms), want))
 }
 
-fn of_set(name: &[u8], given: &[u64], want: &[u64]) -> bool {
-    let zset = args::word(given, 0);
-    if args::fit(given, 4) {
-        return of_bits(name, zset, want);
-    }
-    args::fit(given, 44) && common(name, ZoomSet::new(zset), given, want)
-}
-
-fn of_bits(name: &[u8], zset: u32, want: &[u64]) -> bool {
-    match names::index(name, b"zset2zvec zset2zvec_rev zoom_ranges") {
-        0 => zset2zvec(zset, want) && to_zooms(ZoomSet::new(zset), want),
-        1 => zset2zvec_rev(zset, want),
-        2 => zoom_ranges(zset, want) && ranges_of(ZoomSet::new(zset), want),
-        _ => false,
+fn of_sets(name: &[u8], given: &[u64], want: &[u64]) -> Option<bool> {
+    match given {
+        &[zset] => of_set(name, u32::try_from(zset).ok()?, want),
+        &[zset, other] => {
+            let set = ZoomSet::new(u32::try_from(zset).ok()?);
+            common(name, set, u32::try_from(other).ok()?, want)
+        }
+        _ => None,
     }
 }
 
-fn zset2zvec(zset: u32, want: &[u64]) -> bool {
-    let mut out = [BLANK; 64];
-    let answer = zoom::zset2zvec(zset, &mut out);
-    answers::same_bytes(answer, &out, want)
-}
-
-fn zset2zvec_rev(zset: u32, want: &[u64]) -> bool {
-    let mut out = [BLANK; 64];
-    let answer = zoom::zset2zvec_rev(zset, &mut out);
-    answers::same_bytes(answer, &out, want)
-}
-
-fn to_zooms(set: ZoomSet, want: &[u64]) -> bool {
-    let mut out = [BLANK; 64];
-    let answer = set.to_zooms(&mut out);
-    answers::same_bytes(answer, &out, want)
-}
-
-fn zoom_ranges(zset: u32, want: &[u64]) -> bool {
-    let mut lows = [BLANK; 64];
-    let mut highs = [BLANK; 64];
-    let answer = zoom_ranges::zoom_ranges(zset, &mut lows, &mut highs);
-    same_ranges(answer, &lows, &highs, want)
-}
-
-fn ranges_of(set: ZoomSet, want: &[u64]) -> bool {
-    let mut lows = [BLANK; 64];
-    let mut highs = [BLANK; 64];
-    let answer = set.zoom_ranges(&mut lows, &mut highs);
-    same_ranges(answer, &lows, &highs, want)
+fn of_set(name: &[u8], zset: u32, want: &[u64]) -> Option<bool> {
+    let set = ZoomSet::new(zset);
+    match name {
+        b"zset2zvec" => {
+            let same = answers::same_bytes(|out| zoom::zset2zvec(zset, out), want);
+            Some(same && answers::same_bytes(|out| set.to_zooms(out), want))
+        }
+        b"zset2zvec_rev" => {
+            let same = answers::same_bytes(|out| zoom::zset2zvec_rev(zset, out), want);
+            Some(same)
+        }
+        b"zoom_ranges" => {
+            let same = same_ranges(
+                |lows, highs| zoom_ranges::zoom_ranges(zset, lows, highs),
+                want,
+            )?;
+            Some(same && same_ranges(|lows, highs| set.zoom_ranges(lows, highs), want)?)
+        }
+        _ => None,
+    }
 }
 
 // The list says the count, then all lowest zooms, then all highest ones. There is memory enough, and nothing else is refused.
-fn same_ranges(answer: Count, lows: &[u8], highs: &[u8], want: &[u64]) -> bool {
-    let Count::Counted(n) = answer else {
-        return false;
-    };
-    if n > 64 {
-        return false;
-    }
-    lists::accepted(&[n as u64], 2 * n, want)
-        && answers::listed(lows, parts::numbers(want, 2, n))
-        && answers::listed(highs, parts::numbers(want, 2 + n, n))
+fn same_ranges<F: Fn(&mut [u8], &mut [u8]) -> Result<usize, Refusal>>(
+    ranges: F,
+    want: &[u64],
+) -> Option<bool>
+    requires { F.IsAlwaysCallable ranges }
+{
+    let mut lows = [u8::BLANK; PLACES];
+    let mut highs = [u8::BLANK; PLACES];
+    let n = ranges(&mut lows, &mut highs).ok()?;
+    let said = answers::behind(&[n as u64], n.checked_mul(2)?, want)?;
+    let (low, high) = said.split_at_checked(n)?;
+    Some(answers::holds(&lows, low, 0) && answers::holds(&highs, high, 0))
 }
 
-fn common(name: &[u8], set: ZoomSet, given: &[u64], want: &[u64]) -> bool {
-    let other = args::word(given, 1);
-    match names::index(name, b"and and_zoom") {
-        0 => says_set(set.and(ZoomSet::new(other)), want) && says_set(set.and_bits(other), want),
-        1 => args::fit(given, 41) && same_set(set.and_zoom(args::byte(given, 1)), want),
-        _ => false,
-    }
-}
-
-fn same_set(answer: ZoomSetAnswer, want: &[u64]) -> bool {
-    match answer {
-        ZoomSetAnswer::Set(set) => says_set(set, want),
-        ZoomSetAnswer::Refused(why) => answers::refused(why, 1, want),
+fn common(name: &[u8], set: ZoomSet, other: u32, want: &[u64]) -> Option<bool> {
+    match name {
+        b"and" => {
+            let same = same_set(Ok(set.and(ZoomSet::new(other))), want);
+            Some(same && same_set(Ok(set.and_bits(other)), want))
+        }
+        b"and_zoom" => Some(same_set(set.and_zoom(u8::try_from(other).ok()?), want)),
+        _ => None,
     }
 }
 
-// Whether the list says that the call is accepted, with this set.
-fn says_set(set: ZoomSet, want: &[u64]) -> bool {
-    answers::accepted(&[set.number() as u64], want)
+fn same_set(answer: Result<ZoomSet, Refusal>, want: &[u64]) -> bool {
+    answers::same_number(answer.map(|set| set.number()), want)
 }

@@ -1,111 +1,92 @@
 // Replays keys fed byte by byte, and readers that a caller fills himself. Prints each line whose answer is not what the list says.
 #![tactic(auto)]
 
-use key_reader::{FeedAnswer, KeyReader};
-use replay::args::ListArg;
-use replay::{answers, args, calls, names, parts};
+use key_reader::KeyReader;
+use replay::calls::{Played, Player};
+use replay::parse::Call;
+use replay::{answers, args, calls};
+use std::io;
 
 // Places enough for the bytes of every line.
 const ROOM: usize = 512;
 
-fn main() {
-    let mut text = io::large_buffer();
-    let mut numbers = calls::numbers();
-    let mut call = calls::first(&mut text, &mut numbers);
-    // A list ends long before the turns do.
-    let mut turns = u64::MAX;
-    while turns > 0 && call.found {
-        let same = replayed(
-            calls::name(&text, call),
-            calls::args(&numbers, call),
-            calls::answer(&numbers, call),
-        );
-        call = calls::next(&mut text, &mut numbers, call, same);
-        turns -= 1;
+fn main(rt: HostRuntime) -> io::Result<()> {
+    calls::replay(&rt, &mut Keys)
+}
+
+#[derive(Drop)]
+struct Keys;
+
+impl Player for Keys {
+    fn play(&mut self, call: Call<'_>) -> io::Result<Played> {
+        Ok(Played::from(replayed(call) == Some(true)))
     }
 }
 
-// Whether the call answers what the list says.
-fn replayed(name: &[u8], given: &[u64], want: &[u64]) -> bool {
-    match names::index(name, b"fed feed tile") {
-        0 => fed(given, want),
-        1 => fit(given, 44111) && feed(filled(given), args::byte(given, 4), want),
-        2 => fit(given, 4411) && answers::same_tile(filled(given).tile(), want),
-        _ => false,
+// Whether the call answers what the list says; None where it is no call of a reader.
+fn replayed(call: Call<'_>) -> Option<bool> {
+    let Call { name, given, want } = call;
+    match (name, given) {
+        (b"fed", _) => fed(given, want),
+        (b"feed", &[x, y, count, bad, byte]) => {
+            let byte = u8::try_from(byte).ok()?;
+            Some(feed(filled(x, y, count, bad)?, byte, want))
+        }
+        (b"tile", &[x, y, count, bad]) => {
+            let reader = filled(x, y, count, bad)?;
+            Some(answers::same_tile(reader.tile(), want))
+        }
+        _ => None,
     }
 }
 
 // A key as one list of bytes, and what its reader tells before the first and after each: as often as there are numbers given.
-fn fed(given: &[u64], want: &[u64]) -> bool {
+fn fed(given: &[u64], want: &[u64]) -> Option<bool> {
     if want.len() % 4 != 0 || want.len() / 4 != given.len() {
-        return false;
+        return None;
     }
-    let mut room = [0u8; ROOM];
-    match args::bytes(given, &mut room) {
-        ListArg::Given(n) => byte_by_byte(parts::bytes(&room, 0, n), want),
-        ListArg::Bad => false,
-    }
-}
-
-fn byte_by_byte(key: &[u8], want: &[u64]) -> bool {
+    let mut room = [0; ROOM];
+    let key = args::bytes(given, &mut room)?;
     let mut reader = KeyReader::start();
-    let mut i = 0;
-    while i < key.len() {
-        if !tells(reader, parts::bytes(key, 0, i), want) {
-            return false;
+    let mut said = want.chunks_exact(4);
+    for (i, byte) in key.iter().enumerate() {
+        if !tells(reader, &key[..i], said.next()?) {
+            return None;
         }
-        let FeedAnswer::Fed(after) = reader.feed(key[i]) else {
-            return false;
-        };
-        reader = after;
-        i += 1;
+        reader.feed(*byte).ok()?;
     }
-    tells(reader, key, want)
+    Some(tells(reader, key, said.next()?))
 }
 
 // Whether the reader after these bytes, and the same bytes read as a whole key, tell what the list says.
 fn tells(reader: KeyReader, bytes: &[u8], want: &[u64]) -> bool {
-    let said = telling(want, bytes.len());
-    answers::same_tile(reader.tile(), said)
-        && answers::same_tile(key_reader::quadkey2xyz(bytes), said)
-}
-
-// What the list says after so many bytes, or nothing past its end.
-fn telling(want: &[u64], bytes: usize) -> &[u64] {
-    if bytes > want.len() / 4 {
-        return parts::numbers(want, 0, 0);
-    }
-    parts::numbers(want, 4 * bytes, 4)
-}
-
-fn feed(reader: KeyReader, byte: u8, want: &[u64]) -> bool {
-    match reader.feed(byte) {
-        FeedAnswer::Fed(after) => same_reader(0, after, want),
-        FeedAnswer::Refused(why, kept) => same_reader(errors::number(why), kept, want),
-    }
+    answers::same_tile(reader.tile(), want)
+        && answers::same_tile(key_reader::quadkey2xyz(bytes), want)
 }
 
 // The refusal's number, 0 for none, then the reader: a refused one is not zeros.
-fn same_reader(number: u8, reader: KeyReader, want: &[u64]) -> bool {
-    args::fit(want, 84411)
-        && args::number(want, 0) == number as u64
-        && args::number(want, 1) == reader.x as u64
-        && args::number(want, 2) == reader.y as u64
-        && args::number(want, 3) == reader.count as u64
-        && args::number(want, 4) == reader.bad as u64
-}
-
-// Whether the numbers begin with those of a reader, of which the fourth is 0 or 1, and fit their kinds.
-fn fit(given: &[u64], kinds: u64) -> bool {
-    args::fit(given, kinds) && args::number(given, 3) < 2
+fn feed(mut reader: KeyReader, byte: u8, want: &[u64]) -> bool {
+    let number = errors::check_number(reader.feed(byte));
+    let KeyReader { x, y, count, bad } = reader;
+    let told = [
+        u64::from(number),
+        u64::from(x),
+        u64::from(y),
+        u64::from(count),
+        u64::from(bad),
+    ];
+    want == told.as_slice()
 }
 
 // The reader that a caller filled: x, y, count, and whether it is bad.
-fn filled(given: &[u64]) -> KeyReader {
-    KeyReader {
-        x: args::word(given, 0),
-        y: args::word(given, 1),
-        count: args::byte(given, 2),
-        bad: args::number(given, 3) != 0,
+fn filled(x: u64, y: u64, count: u64, bad: u64) -> Option<KeyReader> {
+    if bad > 1 {
+        return None;
     }
+    Some(KeyReader {
+        x: u32::try_from(x).ok()?,
+        y: u32::try_from(y).ok()?,
+        count: u8::try_from(count).ok()?,
+        bad: bad == 1,
+    })
 }

@@ -9,55 +9,78 @@ mod quadkey_rs;
 mod sibling_relationship_rs;
 mod tile_rs;
 
-use replay::{calls, names};
+use replay::calls;
+use replay::calls::{Played, Player};
+use replay::parse::Call;
 use replay_boxes::{bbox_rs, tile_zbox_rs, zoom_rs};
+use std::io;
 
-fn main() {
-    let mut text = io::large_buffer();
-    let mut numbers = calls::numbers();
-    let mut module = module_of(b"");
-    let mut call = calls::first(&mut text, &mut numbers);
-    // A list ends long before the turns do.
-    let mut turns = u64::MAX;
-    while turns > 0 && call.found {
-        let name = calls::name(&text, call);
-        let mut same = true;
-        if calls::begins(call) {
-            module = module_of(name);
-            call = calls::begin_module(name, call);
-        } else {
-            same = replayed(
-                module,
-                name,
-                calls::args(&numbers, call),
-                calls::answer(&numbers, call),
-            );
+// The Rust's files.
+#[derive(Clone, Copy, Debug, PartialEq, Eq)]
+enum Module {
+    SiblingRelationship,
+    Tile,
+    Quadkey,
+    Fns,
+    Parent,
+    TileZBox,
+    Zoom,
+    BBox,
+    Merge,
+}
+
+// The module that the calls are of: none before the first name, or behind a name of no module.
+#[derive(Drop)]
+struct Replay {
+    module: Option<Module>,
+}
+
+fn main(rt: HostRuntime) -> io::Result<()> {
+    calls::replay(&rt, &mut Replay { module: None })
+}
+
+impl Player for Replay {
+    fn play(&mut self, call: Call<'_>) -> io::Result<Played> {
+        if call.given.is_empty() && call.want.is_empty() {
+            self.module = Module::of(call.name);
+            return Ok(Played::Begins);
         }
-        call = calls::next(&mut text, &mut numbers, call, same);
-        turns -= 1;
+        let same = match self.module {
+            Some(module) => module.replayed(call),
+            None => None,
+        };
+        Ok(Played::from(same == Some(true)))
     }
 }
 
-// The number of a module, by which `replayed` knows it. No call of one that is not there is as the list says.
-fn module_of(name: &[u8]) -> usize {
-    names::index(
-        name,
-        b"sibling_relationship tile quadkey fns parent tile_zbox zoom bbox merge",
-    )
-}
+impl Module {
+    fn of(name: &[u8]) -> Option<Module> {
+        match name {
+            b"sibling_relationship" => Some(Module::SiblingRelationship),
+            b"tile" => Some(Module::Tile),
+            b"quadkey" => Some(Module::Quadkey),
+            b"fns" => Some(Module::Fns),
+            b"parent" => Some(Module::Parent),
+            b"tile_zbox" => Some(Module::TileZBox),
+            b"zoom" => Some(Module::Zoom),
+            b"bbox" => Some(Module::BBox),
+            b"merge" => Some(Module::Merge),
+            _ => None,
+        }
+    }
 
-// Whether the call answers what the list says.
-fn replayed(module: usize, name: &[u8], given: &[u64], want: &[u64]) -> bool {
-    match module {
-        0 => sibling_relationship_rs::replayed(name, given, want),
-        1 => tile_rs::replayed(name, given, want),
-        2 => quadkey_rs::replayed(name, given, want),
-        3 => fns_rs::replayed(name, given, want),
-        4 => parent_rs::replayed(name, given, want),
-        5 => tile_zbox_rs::replayed(name, given, want),
-        6 => zoom_rs::replayed(name, given, want),
-        7 => bbox_rs::replayed(name, given, want),
-        8 => merge_rs::replayed(name, given, want),
-        _ => false,
+    // Whether the call answers what the list says; None where the module has no such call.
+    fn replayed(self, call: Call<'_>) -> Option<bool> {
+        match self {
+            Module::SiblingRelationship => sibling_relationship_rs::replayed(call),
+            Module::Tile => tile_rs::replayed(call),
+            Module::Quadkey => quadkey_rs::replayed(call),
+            Module::Fns => fns_rs::replayed(call),
+            Module::Parent => parent_rs::replayed(call),
+            Module::TileZBox => tile_zbox_rs::replayed(call),
+            Module::Zoom => zoom_rs::replayed(call),
+            Module::BBox => bbox_rs::replayed(call),
+            Module::Merge => merge_rs::replayed(call),
+        }
     }
 }

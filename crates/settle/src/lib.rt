@@ -33,24 +33,22 @@ pub fn settle(locations: &mut [u64], m: u8) -> usize
 {
     let mut count = 0;
     let mut end = 0;
-    let mut i = 0;
-    while i < locations.len() {
+    // It writes into the slice that it goes over, so the index is needed.
+    for i in 0..locations.len() {
         let k = locations[i];
         if end <= k {
             let low = quadtree::low_bit(k);
             let kept = popped(locations, count, k - low);
             let top = joined(locations, kept, k, m);
-            let at = top.count;
-            locations[at] = top.location;
-            count = at + 1;
+            locations[top.count] = top.location;
+            count = top.count + 1;
             end = k + low;
         }
-        i += 1;
     }
     count
 }
 
-// A location that goes on top of `count` others.
+// A location that goes on top of `count` others. It lives for one turn of `settle`; with the slice in it, that could not be written.
 #[derive(Clone, Copy)]
 struct Top {
     count: usize,
@@ -73,16 +71,16 @@ pub fn morton(k: u64) -> u64
     k >> (u64::trailing_zeros(k) + 1)
 }
 
+// These and `family` take the stack as `locations` and its `count`, as the contract of `family` has them, which is public and fixed.
+
 // How many of `count` locations are left when those above `start` are taken off the top.
 fn popped(locations: &[u64], count: usize, start: u64) -> usize
     requires { count ≤ length locations.now }
     ensures { Popped locations.now start count result }
 {
+    // This loop and that of `joined` count no index: they go on while a test of the stack's top holds.
     let mut left = count;
-    while left > 0 {
-        if locations[left - 1] <= start {
-            return left;
-        }
+    while left > 0 && start < locations[left - 1] {
         left -= 1;
     }
     left
@@ -111,17 +109,11 @@ pub fn family(locations: &[u64], count: usize, k: u64, m: u8) -> bool
     requires { Stand locations.now count k }
     ensures { result ≡ true ↔ ((p : Tile) × Family m (tiles locations.now) count (location_tile k) p) }
 {
-    if count < 3 {
+    let [.., first, second, third] = &locations[..count] else {
         return false;
-    }
+    };
     let step = 2 * quadtree::low_bit(k);
-    if locations[count - 1] + step != k {
-        return false;
-    }
-    if locations[count - 2] + 2 * step != k {
-        return false;
-    }
-    if locations[count - 3] + 3 * step != k {
+    if *third + step != k || *second + 2 * step != k || *first + 3 * step != k {
         return false;
     }
     if zoom(k) <= m {

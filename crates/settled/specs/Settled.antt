@@ -3,8 +3,8 @@ use Rattle.std.specs.Prelude.{Bool, true, false, not, ◌&&◌, List, [], ◌∷
 use Rattle.bits.specs.Tests.{all_of}
 use Rattle.ids.specs.Entry.{entry_tile}
 use Rattle.tile.specs.Order.{tile_order}
-use Rattle.tile.specs.declared.Ordering.{Ordering}
-use Rattle.tile.specs.declared.Ordering.TheVariants.{Less, Equal, Greater}
+use Rattle.std.specs.declared.cmp.Ordering.{Ordering}
+use Rattle.std.specs.declared.cmp.Ordering.TheVariants.{Less, Equal, Greater}
 use Rattle.tile.specs.declared.Tile.{Tile}
 use Rattle.tile_list.specs.List.{listed}
 use Rattle.tile_set.specs.Set.{any_below, ancestor, joins}

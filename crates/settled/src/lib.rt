@@ -5,43 +5,30 @@ ghost use Rattle.std.specs.Prelude.{◌≡◌, true, map};
 ghost use Rattle.bits.specs.Tests.{all_of};
 ghost use Rattle.ids.specs.Entry.{is_entry};
 ghost use Rattle.quadtree.specs.Lists.{entry_key, TileNumbers};
-ghost use Rattle.quadtree.specs.Numbers.{OfMap, location_of, rank_of};
+ghost use Rattle.quadtree.specs.Numbers.{location_of};
 ghost use Rattle.quadtree.specs.declared.Key.TheVariants.{Location};
 ghost use Rattle.settled.specs.Answers.{Lone, Tested};
 ghost use Rattle.settled.specs.Settled.{strictly_in_order};
 
-use tile::{Tile, TileAnswer};
-
-// Rises with the zoom, then the column, then the row.
-fn rank(t: Tile) -> u64
-    requires { OfMap t }
-    ensures { result ≡ rank_of t }
-{
-    let side = bits::wide_pow2(t.z);
-    (side + (t.x as u64)) * side + (t.y as u64)
-}
+use tile::Tile;
 
 // Whether the entries stand strictly in the order of tiles.
 pub fn strictly_in_order(list: &[u64]) -> bool
     requires { all_of is_entry list.now ≡ true }
     ensures { result ≡ strictly_in_order list.now }
 {
-    let mut last = 0;
-    let mut i = 0;
-    while i < list.len() {
-        match ids::entry_tile(list[i]) {
-            TileAnswer::Found(t) => {
-                let r = rank(t);
-                if r <= last {
-                    return false;
-                }
-                last = r;
-            }
-            TileAnswer::Refused(_) => {
+    // Each entry is decoded once, and may be refused: `is_sorted_by` or windows of two would decode it twice.
+    let mut last: Option<Tile> = None;
+    for entry in list {
+        let Ok(t) = ids::entry_tile(*entry) else {
+            return false;
+        };
+        if let Some(before) = last {
+            if t <= before {
                 return false;
             }
         }
-        i += 1;
+        last = Some(t);
     }
     true
 }
@@ -52,9 +39,8 @@ pub fn apart(locations: &[u64]) -> bool
     ensures { Lone locations.now result }
 {
     let mut end = 0;
-    let mut i = 0;
-    while i < locations.len() {
-        let k = locations[i];
+    for (i, location) in locations.iter().enumerate() {
+        let k = *location;
         let low = quadtree::low_bit(k);
         if k - low < end {
             return false;
@@ -63,7 +49,6 @@ pub fn apart(locations: &[u64]) -> bool
             return false;
         }
         end = k + low;
-        i += 1;
     }
     true
 }

@@ -4,12 +4,13 @@
 ghost use Rattle.std.specs.Prelude.{◌≡◌};
 ghost use Rattle.sibling_relationship.specs.Relation.{relation_number, relation_at};
 
-#[derive(Clone, Copy)]
+// The numbers are those that the Rust gives each.
+#[derive(Clone, Copy, Debug, PartialEq, Eq)]
 pub enum SiblingRelationship {
-    UpperLeft,
-    UpperRight,
-    LowerLeft,
-    LowerRight,
+    UpperLeft = 0,
+    UpperRight = 1,
+    LowerLeft = 2,
+    LowerRight = 3,
 }
 
 impl SiblingRelationship {
@@ -17,30 +18,17 @@ impl SiblingRelationship {
     pub fn from(x: u32, y: u32) -> Self
         ensures { relation_number result ≡ relation_at x y }
     {
-        if y % 2 == 0 {
-            if x % 2 == 0 {
-                SiblingRelationship::UpperLeft
-            } else {
-                SiblingRelationship::UpperRight
-            }
-        } else {
-            if x % 2 == 0 {
-                SiblingRelationship::LowerLeft
-            } else {
-                SiblingRelationship::LowerRight
-            }
+        match (x % 2, y % 2) {
+            (0, 0) => SiblingRelationship::UpperLeft,
+            (_, 0) => SiblingRelationship::UpperRight,
+            (0, _) => SiblingRelationship::LowerLeft,
+            (_, _) => SiblingRelationship::LowerRight,
         }
     }
 
-    // The number that the Rust gives each: upper left 0, upper right 1, lower left 2, lower right 3.
     pub fn number(self) -> u8
         ensures { result ≡ relation_number self }
     {
-        match self {
-            SiblingRelationship::UpperLeft => 0,
-            SiblingRelationship::UpperRight => 1,
-            SiblingRelationship::LowerLeft => 2,
-            SiblingRelationship::LowerRight => 3,
-        }
+        self as u8
     }
 }

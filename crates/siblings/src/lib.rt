@@ -5,25 +5,23 @@ ghost use Rattle.std.specs.Prelude.{◌≡◌};
 ghost use Rattle.errors.specs.Cases.{left};
 ghost use Rattle.siblings.specs.Siblings.{other, siblings_written};
 
-use errors::{Check, Count, Refusal};
+use errors::Refusal;
 
 // The other three children of the tile's parent: beside it, above or below it, and across.
-pub fn siblings(x: u32, y: u32, z: u8, out: &mut [u64]) -> Count
+pub fn siblings(x: u32, y: u32, z: u8, out: &mut [u64]) -> Result<usize, Refusal>
     ensures { left result out.new ≡ siblings_written x y z out.old }
 {
-    if let Check::Refused(why) = tile::check(x, y, z) {
-        return Count::Refused(why);
-    }
+    tile::check(x, y, z)?;
     if z == 0 {
-        return Count::Refused(Refusal::NoRelative);
+        return Err(Refusal::NoRelative);
     }
     if out.len() < 3 {
-        return Count::Refused(Refusal::Memory);
+        return Err(Refusal::Memory);
     }
     out[0] = ids::entry(beside(x), y, z);
     out[1] = ids::entry(x, beside(y), z);
     out[2] = ids::entry(beside(x), beside(y), z);
-    Count::Counted(3)
+    Ok(3)
 }
 
 // The other column, or row, of a family.

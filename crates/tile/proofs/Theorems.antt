@@ -1,7 +1,6 @@
 -- What the definitions of this crate come to, in document 01's words, and that the Rust gives the same. Nothing is assumed.
-use Rattle.std.specs.Prelude.{◌≡◌, refl, ◌↔◌, Bool, true, false, cond, ◌||◌, ℕ, zero, suc, ◌+◌, ◌-◌, ◌^◌, ◌≤◌, ◌<◌, eqb, leb, ltb}
-use Rattle.std.proofs.Common.{sym, ap, ◌∙◌, le_trans, arith, pow_pos, le-leb, le-ltb, lt-ltb, ltb-true, ltb-false, eq-eqb, ne_eqb}
-use Rattle.std.proofs.Math.Option.{none, some}
+use Rattle.std.specs.Prelude.{◌≡◌, refl, ◌↔◌, Bool, true, false, cond, ◌||◌, ℕ, zero, suc, ◌+◌, ◌-◌, ◌^◌, ◌≤◌, ◌<◌, eqb, leb, None, Some}
+use Rattle.std.proofs.Common.{sym, ap, ◌∙◌, le_trans, arith, pow_pos, le-leb, le-ltb, lt-ltb, eq-eqb, ne_eqb}
 use Rattle.std.proofs.Math.Decide.{dec_lt}
 use Rattle.std.proofs.Math.Pow.{pow-lt}
 use Rattle.std.proofs.lemmas.Bool.{lt-leb, eqb-false}
@@ -9,17 +8,16 @@ use Rattle.bits.specs.Checked.{stops, returns, read, fits, minus, minus_fits, on
 use Rattle.constants.specs.Limits.{at_least_29}
 use Rattle.errors.specs.Answer.{answer, ◌when◌, ◌else◌}
 use Rattle.tile.specs.OnMap.{OnMap, tile_at, no_tile_of, tile_refusal, try_new, on_map_accepted, accepted_on_map}
-use Rattle.tile.specs.Order.{Before, by_number, tile_order, less_if_before, before_if_less, equal_if_same, same_if_equal}
+use Rattle.tile.specs.Order.{Before, tile_order, less_if_before, before_if_less, equal_if_same, same_if_equal}
 use Rattle.tile.specs.Steps.{flip_of, stepped, leaves, step_of}
 use Rattle.tile.specs.Steps.{up_of, down_of, left_tile_of, right_of, up_left_of, up_right_of, down_left_of, down_right_of}
 use Rattle.tile.specs.Rust.{To29, to_29_on_map, accepted, err_is_two, off_is_two}
-use Rattle.tile.specs.Rust.{rust_try_new, rust_flipy, rust_flip, rust_compare, then_by, rust_cmp, rust_along, rust_step}
+use Rattle.tile.specs.Rust.{rust_try_new, rust_flipy, rust_flip, rust_cmp, rust_along, rust_step}
 use Rattle.tile.specs.Rust.{rust_up, rust_down, rust_left, rust_right, rust_up_left, rust_up_right, rust_down_left, rust_down_right}
 use Rattle.tile.specs.declared.Tile.{Tile}
 use Rattle.tile.specs.declared.Step.{Step}
 use Rattle.tile.specs.declared.Step.TheVariants.{Back, Stay, On}
-use Rattle.tile.specs.declared.Ordering.{Ordering}
-use Rattle.tile.specs.declared.Ordering.TheVariants.{Less, Equal, Greater}
+use Rattle.std.specs.declared.cmp.Ordering.TheVariants.{Less, Equal}
 
 -- "z ≤ 29, x and y below 2^z"; document 02: "The zoom limit of refusal 1 becomes 30". Exactly these are not refused
 pub the_tiles_of_the_map : (x y z : ℕ) → tile_refusal x y z ≡ 0 ↔ OnMap x y z
@@ -103,7 +101,7 @@ to_29_refusal x y z h = rw (le-ltb _ _ (le_trans h at_least_29))
 pub rust_try_new_lem : (x y z : ℕ) → z ≤ 29 → read err_is_two (rust_try_new x y z) ≡ returns (try_new x y z)
 rust_try_new_lem x y z h = rw (fits 32 (2 ^ z) (power_fits h), to_29_refusal x y z h) (pick (leb (2 ^ z) x || leb (2 ^ z) y))
   where
-    pick : (b : Bool) → returns (err_is_two (cond b none (some (tile_at x y z)))) ≡ returns (answer (2 when b) no_tile_of (tile_at x y z))
+    pick : (b : Bool) → returns (err_is_two (cond b None (Some (tile_at x y z)))) ≡ returns (answer (2 when b) no_tile_of (tile_at x y z))
     pick true = refl
     pick false = refl
 
@@ -124,25 +122,8 @@ rust_flip_lem t m =
     )
 
 -- `cmp` of any two tiles
-compared_then : (a b : ℕ) (tie : Ordering) → then_by (rust_compare a b) tie ≡ by_number a b tie
-compared_then a b tie = pick (ltb a b) refl (ltb b a) refl
-  where
-    pick : (p : Bool) → ltb a b ≡ p → (q : Bool) → ltb b a ≡ q
-        → then_by (cond p Less (cond (eqb a b) Equal Greater)) tie ≡ cond p Less (cond q Greater tie)
-    pick true e q f = refl
-    pick false e true f = rw (ne_eqb a b (λ g. omega (arith, ltb-true b a f)))
-    pick false e false f = rw (eq-eqb a b (omega (arith, ltb-false a b e, ltb-false b a f)))
-
 pub rust_cmp_lem : (s t : Tile) → rust_cmp s t ≡ tile_order s t
-unfolding tile_order
-rust_cmp_lem s t =
-    let e = last (rust_compare s.y t.y) ∙ compared_then s.y t.y Equal in
-    rw (e, compared_then s.x t.x, compared_then s.z t.z)
-  where
-    last : (o : Ordering) → o ≡ then_by o Equal
-    last Less = refl
-    last Equal = refl
-    last Greater = refl
+rust_cmp_lem s t = refl
 
 -- along an axis of `end` numbers the Rust stops where a step leaves it below; else it comes to the number that the step leads to,
 -- and that is past the end just where the step leaves the axis

@@ -1,5 +1,5 @@
-pub mod Option
 pub mod OnMap
 pub mod Order
 pub mod Rust
 pub mod Steps
+pub mod Cursor

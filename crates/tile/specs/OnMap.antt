@@ -1,18 +1,14 @@
 -- What a tile of the map is, and refusals 1 and 2 of whoever names one.
-use Rattle.std.specs.Prelude.{◌≡◌, refl, Bool, true, false, ◌||◌, ℕ, ◌%◌, ◌^◌, ◌≤◌, ◌<◌, leb, ltb}
+use Rattle.std.specs.Prelude.{◌≡◌, refl, Bool, true, false, ◌||◌, ℕ, ◌%◌, ◌^◌, ◌≤◌, ◌<◌, leb, ltb, Result, Ok, Err}
 use Rattle.std.proofs.Common.{sym, ap, ◌∙◌, arith, pow_pos, pow_mono, leb-false, ltb-false, le-leb, le-ltb, lt-ltb}
 use Rattle.std.proofs.lemmas.Bool.{lt-leb}
 use Rattle.bits.specs.Powers.{pow_within}
 use Rattle.constants.specs.Limits.{max_zoom, max_zoom_small}
 use Rattle.errors.specs.Answer.{Answer, answer, number_of, ◌when◌, ◌else◌}
-use Rattle.errors.specs.Cases.{refused_as, u32_case}
+use Rattle.errors.specs.Cases.{case_of, number_case}
 use Rattle.errors.specs.Laws.{answer_found, answer_refused}
 use Rattle.errors.specs.declared.Refusal.{Refusal}
-use Rattle.errors.specs.declared.U32Answer.{U32Answer}
-use Rattle.errors.specs.declared.U32Answer.TheVariants.{Number, Refused as Refuse}
 use Rattle.tile.specs.declared.Tile.{Tile}
-use Rattle.tile.specs.declared.TileAnswer.{TileAnswer}
-use Rattle.tile.specs.declared.TileAnswer.TheVariants.{Found, Refused}
 
 -- the tile at column x and row y of zoom z
 abbrev pub tile_at : ℕ → ℕ → ℕ → Tile
@@ -31,9 +27,8 @@ unfoldable pub tile_refusal : ℕ → ℕ → ℕ → ℕ
 tile_refusal x y z = 1 when ltb max_zoom z else 2 when (leb (2 ^ z) x || leb (2 ^ z) y)
 
 -- an answer that is a tile, as document 01's number and value
-abbrev pub tile_case : TileAnswer → Answer Tile
-tile_case (Found t) = record { number = 0; value = t }
-tile_case (Refused why) = refused_as why no_tile_of
+abbrev pub tile_case : Result Tile Refusal → Answer Tile
+tile_case r = case_of no_tile_of r
 
 -- how many columns and rows the tile's zoom has
 abbrev pub side_of : ℕ → ℕ → ℕ → Answer ℕ
@@ -75,12 +70,12 @@ pub side_is : {z : ℕ} → z ≤ max_zoom → 2 ^ z % 2 ^ 32 ≡ 2 ^ z
 side_is {z} h = pow_within z 32 (omega (arith, max_zoom_small))
 
 -- what `side` tells its callers
-pub side_found : {r : U32Answer} {end : ℕ} (x y z : ℕ) → u32_case r ≡ side_of x y z → r ≡ Number end → OnMap x y z × (end ≡ 2 ^ z)
-side_found x y z e p = let f = answer_found (tile_refusal x y z) 0 (2 ^ z) _ (sym (ap u32_case p) ∙ e) in (accepted_on_map x y z f.0, f.1)
+pub side_found : {r : Result ℕ Refusal} {end : ℕ} (x y z : ℕ) → number_case r ≡ side_of x y z → r ≡ Ok end → OnMap x y z × (end ≡ 2 ^ z)
+side_found x y z e p = let f = answer_found (tile_refusal x y z) 0 (2 ^ z) _ (sym (ap number_case p) ∙ e) in (accepted_on_map x y z f.0, f.1)
 
-pub side_refused : {r : U32Answer} {why : Refusal} (x y z : ℕ) → u32_case r ≡ side_of x y z → r ≡ Refuse why
+pub side_refused : {r : Result ℕ Refusal} {why : Refusal} (x y z : ℕ) → number_case r ≡ side_of x y z → r ≡ Err why
     → number_of why ≡ tile_refusal x y z
-side_refused {why = why} x y z e p = sym (answer_refused why (tile_refusal x y z) 0 (2 ^ z) (sym (ap u32_case p) ∙ e))
+side_refused {why = why} x y z e p = sym (answer_refused why (tile_refusal x y z) 0 (2 ^ z) (sym (ap number_case p) ∙ e))
 
 -- every zoom has a column 0 and a row 0
 pub column_zero : (y z : ℕ) → tile_refusal 0 y z ≡ 1 when ltb max_zoom z else 2 when leb (2 ^ z) y

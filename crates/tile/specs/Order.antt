@@ -1,10 +1,12 @@
 -- The order of tiles in every list, by this one name: zoom, then column, then row.
-use Rattle.std.specs.Prelude.{◌≡◌, refl, ◌⊎◌, cond, ℕ, ◌≤◌, ◌<◌, ltb}
-use Rattle.std.proofs.Common.{sym, ap, ◌∙◌, inl, inr, arith, lt-ltb, le-ltb}
+use Rattle.std.specs.Prelude.{◌≡◌, refl, ◌⊎◌, ℕ, ◌<◌}
+use Rattle.std.specs.Cmp.{nat_cmp_is}
+use Rattle.std.specs.Ordering.{nat_cmp, on, then_cmp}
+use Rattle.std.proofs.Common.{sym, ap, ◌∙◌, inl, inr, arith}
 use Rattle.std.proofs.Math.Decide.{dec_lt}
 use Rattle.tile.specs.declared.Tile.{Tile}
-use Rattle.tile.specs.declared.Ordering.{Ordering}
-use Rattle.tile.specs.declared.Ordering.TheVariants.{Less, Equal, Greater}
+use Rattle.std.specs.declared.cmp.Ordering.{Ordering}
+use Rattle.std.specs.declared.cmp.Ordering.TheVariants.{Less, Equal, Greater}
 
 -- a tile stands before another
 pub data Before (s t : Tile) : Type 0 where
@@ -12,20 +14,18 @@ pub data Before (s t : Tile) : Type 0 where
   by_x : s.z ≡ t.z → s.x < t.x → Before s t
   by_y : s.z ≡ t.z → s.x ≡ t.x → s.y < t.y → Before s t
 
-abbrev pub by_number : ℕ → ℕ → Ordering → Ordering
-by_number a b tie = cond (ltb a b) Less (cond (ltb b a) Greater tie)
+-- the zooms are compared first, then the columns, then the rows
+abbrev pub tile_order : Tile → Tile → Ordering
+tile_order = then_cmp (on (λ t. t.z) nat_cmp) (then_cmp (on (λ t. t.x) nat_cmp) (on (λ t. t.y) nat_cmp))
 
-unfoldable pub tile_order : Tile → Tile → Ordering
-tile_order s t = by_number s.z t.z (by_number s.x t.x (by_number s.y t.y Equal))
+below : (a b : ℕ) → a < b → nat_cmp a b ≡ Less
+below a b h = sym (nat_cmp_is a b Less h)
 
-below : (a b : ℕ) (tie : Ordering) → a < b → by_number a b tie ≡ Less
-below a b tie h = rw (lt-ltb _ _ h)
+above : (a b : ℕ) → b < a → nat_cmp a b ≡ Greater
+above a b h = sym (nat_cmp_is a b Greater h)
 
-above : (a b : ℕ) (tie : Ordering) → b < a → by_number a b tie ≡ Greater
-above a b tie h = let l : b ≤ a = omega arith in rw (le-ltb _ _ l, lt-ltb _ _ h)
-
-level : (a b : ℕ) (tie : Ordering) → a ≡ b → by_number a b tie ≡ tie
-level a b tie e = let l : b ≤ a = omega arith in let m : a ≤ b = omega arith in rw (le-ltb _ _ l, le-ltb _ _ m)
+level : (a b : ℕ) → a ≡ b → nat_cmp a b ≡ Equal
+level a b e = sym (nat_cmp_is a b Equal e)
 
 -- of two numbers
 compared : (a b : ℕ) → (a < b) ⊎ ((a ≡ b) ⊎ (b < a))
@@ -54,20 +54,17 @@ one_before s t = pick (compared s.z t.z) (compared s.x t.x) (compared s.y t.y)
     pick (inr (inl e)) (inr (inl f)) (inr (inl g)) = inr (inl (tile_ext s t f g e))
 
 pub less_if_before : {s t : Tile} → Before s t → tile_order s t ≡ Less
-unfolding tile_order
-less_if_before {s} {t} (by_z h) = below _ _ _ h
-less_if_before {s} {t} (by_x e h) = level _ _ _ e ∙ below _ _ _ h
-less_if_before {s} {t} (by_y e f h) = level _ _ _ e ∙ (level _ _ _ f ∙ below _ _ _ h)
+less_if_before {s} {t} (by_z h) = rw (below _ _ h)
+less_if_before {s} {t} (by_x e h) = rw (level _ _ e, below _ _ h)
+less_if_before {s} {t} (by_y e f h) = rw (level _ _ e, level _ _ f, below _ _ h)
 
 pub greater_if_after : {s t : Tile} → Before t s → tile_order s t ≡ Greater
-unfolding tile_order
-greater_if_after {s} {t} (by_z h) = above _ _ _ h
-greater_if_after {s} {t} (by_x e h) = level _ _ _ (sym e) ∙ above _ _ _ h
-greater_if_after {s} {t} (by_y e f h) = level _ _ _ (sym e) ∙ (level _ _ _ (sym f) ∙ above _ _ _ h)
+greater_if_after {s} {t} (by_z h) = rw (above _ _ h)
+greater_if_after {s} {t} (by_x e h) = rw (level _ _ (sym e), above _ _ h)
+greater_if_after {s} {t} (by_y e f h) = rw (level _ _ (sym e), level _ _ (sym f), above _ _ h)
 
 pub equal_if_same : (s : Tile) → tile_order s s ≡ Equal
-unfolding tile_order
-equal_if_same s = level s.z s.z _ refl ∙ (level s.x s.x _ refl ∙ level s.y s.y _ refl)
+equal_if_same s = rw (level s.z s.z refl, level s.x s.x refl, level s.y s.y refl)
 
 pub before_if_less : (s t : Tile) → tile_order s t ≡ Less → Before s t
 before_if_less s t e = pick (one_before s t)

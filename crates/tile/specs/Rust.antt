@@ -1,6 +1,5 @@
 -- What the Rust does in tile.rs and in the `flipy` that it calls, as functions on values, in the Rust's own widths and with its checks.
-use Rattle.std.specs.Prelude.{cond, ◌&&◌, ◌||◌, ℕ, ◌^◌, ◌≤◌, ◌<◌, eqb, leb, ltb}
-use Rattle.std.proofs.Math.Option.{Option, none, some}
+use Rattle.std.specs.Prelude.{cond, ◌&&◌, ◌||◌, ℕ, ◌^◌, ◌≤◌, ◌<◌, eqb, leb, ltb, Option, None, Some}
 use Rattle.std.proofs.Common.{le_trans}
 use Rattle.bits.specs.Checked.{Run, stops, returns, ◌then◌, only, plus, minus, power, shift_up}
 use Rattle.constants.specs.Limits.{at_least_29}
@@ -9,8 +8,8 @@ use Rattle.tile.specs.OnMap.{OnMap, tile_at, no_tile_of, try_new}
 use Rattle.tile.specs.declared.Tile.{Tile}
 use Rattle.tile.specs.declared.Step.{Step}
 use Rattle.tile.specs.declared.Step.TheVariants.{Back, Stay, On}
-use Rattle.tile.specs.declared.Ordering.{Ordering}
-use Rattle.tile.specs.declared.Ordering.TheVariants.{Less, Equal, Greater}
+use Rattle.std.specs.declared.cmp.Ordering.{Ordering}
+use Rattle.std.specs.declared.cmp.Ordering.TheVariants.{Less, Equal, Greater}
 
 -- a tile of zoom 0 to 29: there the Rust is compared, whatever this library's own deepest zoom is
 pub record To29 (x y z : ℕ) : Type 0 where
@@ -27,8 +26,8 @@ accepted v = record { number = 0; value = v }
 
 -- an `Err` of `try_new` as refusal 2,
 abbrev pub err_is_two : Option Tile → Answer Tile
-err_is_two none = record { number = 2; value = no_tile_of }
-err_is_two (some t) = accepted t
+err_is_two None = record { number = 2; value = no_tile_of }
+err_is_two (Some t) = accepted t
 
 -- and a step that stops, or that leads off the map, as refusal 2
 abbrev pub off_is_two : Run Tile → Answer Tile
@@ -41,7 +40,7 @@ rust_new x y z = shift_up 32 1 z then λ end. only (ltb x end && ltb y end) (til
 
 -- `try_new`: an `Err` is none
 abbrev pub rust_try_new : ℕ → ℕ → ℕ → Run (Option Tile)
-rust_try_new x y z = power 32 2 z then λ end. returns (cond (leb end x || leb end y) none (some (tile_at x y z)))
+rust_try_new x y z = power 32 2 z then λ end. returns (cond (leb end x || leb end y) None (Some (tile_at x y z)))
 
 -- `flipy` of fns.rs, and `flip`
 abbrev pub rust_flipy : ℕ → ℕ → Run ℕ

@@ -1,10 +1,8 @@
 -- The flipped tile, and the steps to a side.
-use Rattle.std.specs.Prelude.{◌≡◌, refl, Bool, true, false, cond, ◌||◌, ℕ, ◌+◌, ◌-◌, ◌^◌, eqb}
+use Rattle.std.specs.Prelude.{◌≡◌, refl, Bool, true, false, cond, ◌||◌, ℕ, ◌+◌, ◌-◌, ◌^◌, eqb, Option, Some, None}
 use Rattle.errors.specs.Answer.{Answer, answer, ◌when◌, ◌else◌}
 use Rattle.tile.specs.OnMap.{tile_at, no_tile_of, tile_refusal}
 use Rattle.tile.specs.declared.Tile.{Tile}
-use Rattle.tile.specs.declared.Coordinate.{Coordinate}
-use Rattle.tile.specs.declared.Coordinate.TheVariants.{At, Off}
 use Rattle.tile.specs.declared.Step.{Step}
 use Rattle.tile.specs.declared.Step.TheVariants.{Back, Stay, On}
 
@@ -54,22 +52,14 @@ down_left_of t = step_of Back Back t
 abbrev pub down_right_of : Tile → Answer Tile
 down_right_of t = step_of Back On t
 
--- both at once, as the code takes them
-abbrev pub stepped_to : Step → ℕ → ℕ → Coordinate
-stepped_to s n end = cond (leaves s n end) Off (At (stepped s n))
+-- where a step along an axis of `end` numbers leads, if it does not leave the axis
+abbrev pub stepped_to : Step → ℕ → ℕ → Option ℕ
+stepped_to s n end = cond (leaves s n end) None (Some (stepped s n))
 
-abbrev pub tile_on : Coordinate → Coordinate → ℕ → Answer Tile
-tile_on (At x) (At y) z = answer 0 no_tile_of (tile_at x y z)
-tile_on (At x) Off z = answer 2 no_tile_of no_tile_of
-tile_on Off y z = answer 2 no_tile_of no_tile_of
-
--- two steps that are taken one by one lead to the tile that `step_of` names
-pub tile_on_steps : (a b : Step) (x y z : ℕ) → tile_on (stepped_to a x (2 ^ z)) (stepped_to b y (2 ^ z)) z
-    ≡ answer (2 when (leaves a x (2 ^ z) || leaves b y (2 ^ z))) no_tile_of (tile_at (stepped a x) (stepped b y) z)
-tile_on_steps a b x y z = pick (leaves a x (2 ^ z)) (leaves b y (2 ^ z))
+-- a step that leads to a number does not leave the axis, and that is the number
+pub stepped_inside : (s : Step) (n end : ℕ) {m : ℕ} → stepped_to s n end ≡ Some m → (leaves s n end ≡ false) × (stepped s n ≡ m)
+stepped_inside s n end {m} e = pick (leaves s n end) e
   where
-    pick : (p q : Bool) → tile_on (cond p Off (At (stepped a x))) (cond q Off (At (stepped b y))) z
-        ≡ answer (2 when (p || q)) no_tile_of (tile_at (stepped a x) (stepped b y) z)
-    pick true q = refl
-    pick false true = refl
-    pick false false = refl
+    pick : (b : Bool) → cond b None (Some (stepped s n)) ≡ Some m → (b ≡ false) × (stepped s n ≡ m)
+    pick true e = absurd (cc)
+    pick false e = (refl, cc)

@@ -16,7 +16,7 @@ pub fn finish(keys: &mut [u64], count: usize, scratch: &mut [u64], by: Key) -> u
     ensures { Listed (named (sort_tile by) (take count keys.old)) keys.new result }
 {
     let listed = entries(&mut keys[..count], scratch, by);
-    sort::clear(keys, listed);
+    keys[listed..].fill(0);
     listed
 }
 

@@ -2,9 +2,8 @@
 -- hash set or a hash map, whose order is not fixed, walks a list, and `RustTheorems` speaks of every list that the loop can follow.
 -- Columns and rows have 32 bits and zooms 8: `parent` halves and takes 1, which leaves them at zoom 0 alone; `children1` is computed
 -- in them.
-use Rattle.std.specs.Prelude.{◌≡◌, ◌↔◌, Bool, true, false, cond, not, ◌&&◌, ◌||◌, ℕ, zero, suc, ◌+◌, ◌*◌, ◌%◌, ◌^◌, ◌≤◌, eqb, leb, ltb, length}
+use Rattle.std.specs.Prelude.{◌≡◌, ◌↔◌, Bool, true, false, cond, not, ◌&&◌, ◌||◌, ℕ, zero, suc, ◌+◌, ◌*◌, ◌%◌, ◌^◌, ◌≤◌, eqb, leb, ltb, length, Option, None, Some}
 use mathlib.Core.List.{List, [], ◌∷◌, foldl, Memᴰ}
-use Rattle.std.proofs.Math.Option.{Option, none, some}
 use Rattle.tile.specs.OnMap.{tile_at}
 use Rattle.tile.specs.declared.Tile.{Tile}
 use Rattle.tile_set.specs.Merged.{Within}
@@ -28,17 +27,17 @@ extend tiles S = foldl (λ R t. insert_tile t R) S tiles
 abbrev pub remove_all : List Tile → (Tile → Bool) → Tile → Bool
 remove_all tiles S = foldl (λ R t. remove t R) S tiles
 
--- `parent`: one step up where no extra steps are left, else a call one zoom up with one step fewer; none is the Rust's None, and where
+-- `parent`: one step up where no extra steps are left, else a call one zoom up with one step fewer; none is the Rust's none, and where
 -- `z - 1` stops
 unfoldable pub parent : Tile → ℕ → Option Tile
-parent t zero = cond (eqb t.z 0) none (some (parent_tile t))
-parent t (suc n) = cond (eqb t.z 0) none (parent (parent_tile t) n)
+parent t zero = cond (eqb t.z 0) None (Some (parent_tile t))
+parent t (suc n) = cond (eqb t.z 0) None (parent (parent_tile t) n)
 
 -- what `iter_parents` gives: the parent, and after each tile its parent, in no more calls than a zoom of 8 bits has zooms above it
 unfoldable pub parents_from : ℕ → Option Tile → List Tile
 parents_from zero current = []
-parents_from (suc calls) none = []
-parents_from (suc calls) (some t) = t ∷ parents_from calls (parent t 0)
+parents_from (suc calls) None = []
+parents_from (suc calls) (Some t) = t ∷ parents_from calls (parent t 0)
 
 abbrev pub iter_parents : Tile → List Tile
 iter_parents t = parents_from 255 (parent t 0)
@@ -50,8 +49,8 @@ pub record Filed : Type 0 where
 
 -- a tile goes into its parent's group, in which it is new, since the loop meets each tile once
 abbrev pub file_under : Filed → Tile → Option Tile → Filed
-file_under s t none = s
-file_under s t (some parent) = record { upwards = λ p. cond (same_tile p parent) (t ∷ s.upwards p) (s.upwards p); current = s.current }
+file_under s t None = s
+file_under s t (Some parent) = record { upwards = λ p. cond (same_tile p parent) (t ∷ s.upwards p) (s.upwards p); current = s.current }
 
 abbrev pub file : ℕ → Filed → Tile → Filed
 file m s t = cond (ltb m t.z) (file_under s t (parent t 0)) (record { upwards = s.upwards; current = insert_tile t s.current })
@@ -77,8 +76,8 @@ rust_merge m tiles supertiles =
 
 -- the first loop of `simplify_v1`; the i of its inner loop run from z - 1 down to m
 abbrev pub holds_some : (Tile → Bool) → Option Tile → Bool
-holds_some roots none = false
-holds_some roots (some parent) = roots parent
+holds_some roots None = false
+holds_some roots (Some parent) = roots parent
 
 abbrev pub keep_root : ℕ → (Tile → Bool) → Tile → Tile → Bool
 keep_root m roots t =

@@ -1,7 +1,6 @@
 -- That the Rust's `parent` and `iter_parents` give the ancestors of a tile.
-use Rattle.std.specs.Prelude.{◌≡◌, refl, Bool, ◌||◌, List, [], ◌∷◌, ℕ, zero, suc, ◌-◌, ◌≤◌, ◌<◌}
+use Rattle.std.specs.Prelude.{◌≡◌, refl, Bool, ◌||◌, List, [], ◌∷◌, ℕ, zero, suc, ◌-◌, ◌≤◌, ◌<◌, Some}
 use Rattle.std.proofs.Common.{ap, ◌∙◌, arith, ne_eqb}
-use Rattle.std.proofs.Math.Option.{some}
 use Rattle.tile.specs.declared.Tile.{Tile}
 use Rattle.tile_set.specs.Holds.{holds_refl, holds_trans, ancestor_holds, holder_is_ancestor, parent_holds}
 use Rattle.tile_set.specs.Rust.{parent, parents_from, iter_parents, contains_any}
@@ -20,23 +19,23 @@ one_up t s h =
 itself : (t : Tile) → t ≡ ancestor t t.z
 itself t = holder_is_ancestor (holds_refl t)
 
-pub has_parent : (t : Tile) → 0 < t.z → parent t 0 ≡ some (parent_tile t)
+pub has_parent : (t : Tile) → 0 < t.z → parent t 0 ≡ Some (parent_tile t)
 unfolding parent
 has_parent t h = rw (ne_eqb t.z 0 (λ z. omega arith))
 
-steps_up : (t : Tile) (i s : ℕ) → s ≤ t.z → i < s → parent (ancestor t s) i ≡ some (ancestor t (s - 1 - i))
+steps_up : (t : Tile) (i s : ℕ) → s ≤ t.z → i < s → parent (ancestor t s) i ≡ Some (ancestor t (s - 1 - i))
 unfolding parent
 steps_up t i zero h l = absurd (omega arith)
 steps_up t zero (suc s) h l =
     let e : s ≡ suc s - 1 - 0 = omega arith in
-    has_parent (ancestor t (suc s)) (omega arith) ∙ ap some (one_up t s h ∙ ap (ancestor t) e)
+    has_parent (ancestor t (suc s)) (omega arith) ∙ ap Some (one_up t s h ∙ ap (ancestor t) e)
 steps_up t (suc i) (suc s) h l =
     let e : s - 1 - i ≡ suc s - 1 - suc i = omega arith in
     rw (ne_eqb (suc s) 0 (λ z. omega arith), one_up t s h)
-    (steps_up t i s (omega arith) (omega arith) ∙ ap (λ (n : ℕ). some (ancestor t n)) e)
+    (steps_up t i s (omega arith) (omega arith) ∙ ap (λ (n : ℕ). Some (ancestor t n)) e)
 
 -- `parent` of i extra steps, fewer than the tile's zoom, is the ancestor of zoom z - 1 - i
-pub parent_is : (t : Tile) (i : ℕ) → i < t.z → parent t i ≡ some (ancestor t (t.z - 1 - i))
+pub parent_is : (t : Tile) (i : ℕ) → i < t.z → parent t i ≡ Some (ancestor t (t.z - 1 - i))
 parent_is t i l = ap (λ (u : Tile). parent u i) (itself t) ∙ steps_up t i t.z (omega arith) l
 
 above : (t : Tile) (n calls : ℕ) → suc n ≤ t.z

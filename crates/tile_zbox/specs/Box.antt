@@ -1,16 +1,13 @@
 -- A box of tiles of one zoom, both ends included: refusals 1 and 10 of whoever sends one, and what its calls promise.
-use Rattle.std.specs.Prelude.{◌≡◌, Bool, false, ◌&&◌, ◌||◌, ℕ, ◌+◌, ◌-◌, ◌*◌, ◌^◌, ◌≤◌, ◌<◌, leb, ltb, eqb}
+use Rattle.errors.specs.declared.Refusal.{Refusal}
+use Rattle.std.specs.Prelude.{◌≡◌, Bool, false, ◌&&◌, ◌||◌, ℕ, ◌+◌, ◌-◌, ◌*◌, ◌^◌, ◌≤◌, ◌<◌, leb, ltb, eqb, Result}
 use Rattle.constants.specs.Limits.{max_zoom}
 use Rattle.errors.specs.Answer.{Answer, answer, ◌when◌, ◌else◌}
-use Rattle.errors.specs.Cases.{refused_as}
+use Rattle.errors.specs.Cases.{case_of}
 use Rattle.tile.specs.OnMap.{tile_refusal}
 use Rattle.tile.specs.declared.Tile.{Tile}
 use Rattle.tile_zbox.specs.declared.TileZBox.{TileZBox}
 use Rattle.tile_zbox.specs.declared.Extent.{Extent}
-use Rattle.tile_zbox.specs.declared.BoxAnswer.{BoxAnswer}
-use Rattle.tile_zbox.specs.declared.ExtentAnswer.{ExtentAnswer}
-use Rattle.tile_zbox.specs.declared.BoxAnswer.TheVariants as box
-use Rattle.tile_zbox.specs.declared.ExtentAnswer.TheVariants as extent
 
 -- the columns minx to maxx and the rows miny to maxy of a zoom
 abbrev pub box_at : ℕ → ℕ → ℕ → ℕ → ℕ → TileZBox
@@ -37,18 +34,16 @@ wrong_edges b = wrong_run b.minx b.maxx (2 ^ b.zoom) || wrong_run b.miny b.maxy 
 unfoldable pub box_refusal : TileZBox → ℕ
 box_refusal b = 1 when ltb max_zoom b.zoom else 10 when wrong_edges b
 
--- the answers that are enums, as document 01's number and value
+-- the answers, as document 01's number and value
 
-abbrev pub box_case : BoxAnswer → Answer TileZBox
-box_case (box.Found b) = record { number = 0; value = b }
-box_case (box.Refused why) = refused_as why no_box
+abbrev pub box_case : Result TileZBox Refusal → Answer TileZBox
+box_case r = case_of no_box r
 
 abbrev pub extent_at : ℕ → ℕ → Extent
 extent_at across down = record { across = across; down = down }
 
-abbrev pub extent_case : ExtentAnswer → Answer Extent
-extent_case (extent.Found e) = record { number = 0; value = e }
-extent_case (extent.Refused why) = refused_as why (extent_at 0 0)
+abbrev pub extent_case : Result Extent Refusal → Answer Extent
+extent_case r = case_of (extent_at 0 0) r
 
 -- the promises
 

@@ -1,11 +1,14 @@
 -- Laws of boxes: which are refused, that their numbers fit, and which tiles they hold.
-use Rattle.std.specs.Prelude.{◌≡◌, refl, Bool, true, false, ◌||◌, ℕ, ◌+◌, ◌-◌, ◌*◌, ◌^◌, ◌≤◌, ◌<◌, leb, ltb, eqb}
+use Rattle.std.specs.Prelude.{◌≡◌, refl, Result, Ok, Bool, true, false, ◌||◌, ℕ, ◌+◌, ◌-◌, ◌*◌, ◌^◌, ◌≤◌, ◌<◌, leb, ltb, eqb}
 use Rattle.std.proofs.Common.{mul-le-mul, lt_of_le_of_lt, lt_of_lt_of_le, arith, pow_pos, pow-add, leb-true, leb-false, ltb-false, le-leb, lt-ltb, le-ltb, eqb-true, eq-eqb}
 use Rattle.std.proofs.Math.Arith.{digits_lt}
 use Rattle.std.proofs.lemmas.Bool.{lt-leb}
 use Rattle.bits.specs.Tests.{and_parts}
 use Rattle.constants.specs.Limits.{max_zoom}
 use Rattle.errors.specs.Answer.{◌when◌, ◌else◌}
+use Rattle.errors.specs.Cases.{check_number}
+use Rattle.errors.specs.Laws.{check_fine}
+use Rattle.errors.specs.declared.Refusal.{Refusal}
 use Rattle.tile.specs.OnMap.{side_small}
 use Rattle.tile.specs.declared.Tile.{Tile}
 use Rattle.tile_zbox.specs.Box.{IsBox, wrong_run, wrong_edges, box_refusal, in_range, in_box, HoldsTile, zoomed_in, zoomed_by, columns_of}
@@ -57,6 +60,10 @@ accepted_box b e = pick (ltb max_zoom b.zoom) refl (wrong_edges b) refl e
     pick true f q g e = absurd (omega arith)
     pick false f true g e = absurd (omega arith)
     pick false f false g e = edges_fine b (ltb-false _ _ f) g
+
+-- what `check` leaves where it refuses nothing
+pub checked_box : {A : Type 0} {v : A} {r : Result A Refusal} (b : TileZBox) → r ≡ Ok v → check_number r ≡ box_refusal b → IsBox b
+checked_box b p e = accepted_box b (check_fine p e)
 
 -- how many columns and rows a box can have
 pub columns_fit : {b : TileZBox} → IsBox b → columns_of b ≤ 2 ^ b.zoom

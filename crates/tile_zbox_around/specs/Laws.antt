@@ -1,8 +1,9 @@
 -- Laws of the lists that boxes are put around: which are refused, and the box entry by entry.
-use Rattle.std.specs.Prelude.{◌≡◌, refl, Bool, true, false, not, List, [], ◌∷◌, ◌++◌, map, ℕ, zero, suc, ◌+◌, ◌≤◌, ◌<◌, min, max, ltb, eqb, length, take, get_or}
+use Rattle.std.specs.Prelude.{◌≡◌, refl, Bool, true, false, not, List, [], ◌∷◌, ◌++◌, map, ℕ, zero, suc, ◌+◌, ◌-◌, ◌≤◌, ◌<◌, min, max, ltb, eqb, length, take, drop, get_or}
+use Rattle.std.specs.List.{list_all}
 use Rattle.std.proofs.lemmas.List.{map-append}
 use Rattle.std.proofs.Math.Nat.{max-zero}
-use Rattle.std.proofs.Common.{add-one, arith, take-suc, ltb-false, lt-ltb, le-ltb, eqb-true, eq-eqb, ne_eqb}
+use Rattle.std.proofs.Common.{le_refl, add-one, arith, take-suc, take_all, ltb-false, lt-ltb, le-ltb, eqb-true, eq-eqb, ne_eqb}
 use Rattle.std.proofs.lemmas.Bool.{eqb-false}
 use Rattle.bits.specs.Tests.{all_of, all_at}
 use Rattle.constants.specs.Limits.{max_entries}
@@ -11,8 +12,26 @@ use Rattle.ids.specs.Entry.{entry_tile, entry_refusal, is_entry}
 use Rattle.tile_zbox.specs.Box.{box_at}
 use Rattle.tile_zbox_around.specs.Around.{of_zoom, zoom_of_first, tiles_refusal, least, greatest, entry_column, entry_row, box_around, grown}
 
+-- the library's test of all entries is that of this repository
+pub all_listed : (p : ℕ → Bool) (l : List ℕ) → list_all p l ≡ all_of p l
+unfolding all_of
+all_listed p [] = refl
+all_listed p (n ∷ ns) = rw (all_listed p ns)
+
 pub entry_at : (l : List ℕ) (i : ℕ) → all_of is_entry l ≡ true → i < length l → entry_refusal (get_or l i 0) ≡ 0
 entry_at l i e h = eqb-true _ _ (all_at is_entry l i e h)
+
+-- the entries behind the first one
+pub others_length : (l : List ℕ) → length (take (length l - 1) (drop 1 l)) + 1 ≡ max (length l) 1
+others_length [] = refl
+others_length (n ∷ ns) = let e : length (n ∷ ns) - 1 ≡ length ns = omega arith in
+    rw (e, take_all (length ns) ns (le_refl (length ns))) (omega arith)
+
+pub other_at : (l : List ℕ) (i : ℕ) → get_or (take (length l - 1) (drop 1 l)) i 0 ≡ get_or l (i + 1) 0
+other_at [] i = refl
+other_at (n ∷ ns) i =
+    let e : length (n ∷ ns) - 1 ≡ length ns = omega arith in
+    rw (e, take_all (length ns) ns (le_refl (length ns)), add-one i)
 
 -- the refusals of a list, each where the tests before it find nothing
 pub list_long : (l : List ℕ) → max_entries < length l → tiles_refusal l ≡ 6

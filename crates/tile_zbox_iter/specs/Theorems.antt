@@ -3,12 +3,13 @@ use Rattle.std.specs.Prelude.{◌≡◌, ◌↔◌, Bool, true, ℕ, ◌+◌, �
 use Rattle.std.proofs.Common.{sym, ap, ◌∙◌, subst, arith, lt-ltb, le-ltb}
 use mathlib.Core.List.{List, Memᴰ}
 use Rattle.errors.specs.Answer.{Answer}
+use Rattle.tile.specs.Cursor.{step_ended}
 use Rattle.tile.specs.OnMap.{OnMap, on_map_accepted}
 use Rattle.tile.specs.declared.Tile.{Tile}
 use Rattle.tile_zbox.specs.Box.{IsBox, in_box, HoldsTile, contains_of, box_length}
 use Rattle.tile_zbox.specs.Laws.{box_accepted, holds_in, in_holds}
 use Rattle.tile_zbox.specs.declared.TileZBox.{TileZBox}
-use Rattle.tile_zbox_iter.specs.Cursor.{cursor_at, kth_tile, step_ended, next_of, size_hint_of}
+use Rattle.tile_zbox_iter.specs.Cursor.{cursor_at, kth_tile, next_of, size_hint_of}
 use Rattle.tile_zbox_iter.specs.Tiles.{box_tiles, numbered_from, numbered_all, numbered_length, member_number, number_member}
 use Rattle.tile_zbox_iter.specs.Tiles.{kth_holds, index_of, index_below, kth_of_index, index_of_kth, CursorGives, next_ends}
 use Rattle.tile_zbox_iter.specs.Tiles.{gives_numbered}

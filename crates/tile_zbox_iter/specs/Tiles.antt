@@ -4,13 +4,14 @@ use Rattle.std.proofs.Common.{sym, ap, ap₂, ◌∙◌, inl, inr, mul_comm, mod
 use mathlib.Core.List.Memᴰ
 use mathlib.Core.List.{List, [], ◌∷◌, ◌++◌, Memᴰ}
 use Rattle.std.proofs.Math.Arith.{digits_lt, digits_div, digits_mod}
+use Rattle.tile.specs.Cursor.{step_given, step_ended}
 use Rattle.tile.specs.OnMap.{tile_at, no_tile_of}
 use Rattle.tile.specs.Order.{tile_ext}
 use Rattle.tile.specs.declared.Tile.{Tile}
 use Rattle.tile_zbox.specs.Box.{IsBox, HoldsTile, columns_of, rows_of, box_length}
 use Rattle.tile_zbox.specs.Laws.{box_accepted}
 use Rattle.tile_zbox.specs.declared.TileZBox.{TileZBox}
-use Rattle.tile_zbox_iter.specs.Cursor.{cursor_at, kth_tile, step_given, step_ended, next_of}
+use Rattle.tile_zbox_iter.specs.Cursor.{cursor_at, kth_tile, next_of}
 use Rattle.tile_zbox_iter.specs.declared.TileZBoxIterator.{TileZBoxIterator}
 
 -- the n tiles of a row from column x on

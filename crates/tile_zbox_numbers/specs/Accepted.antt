@@ -1,15 +1,15 @@
 -- Which boxes are refused: tests of several boxes one after the other, and what is known of boxes that are not refused.
-use Rattle.std.specs.Prelude.{◌≡◌, refl, Bool, true, false, not, List, [], ◌∷◌, ℕ, zero, suc, ◌+◌, ◌-◌, ◌/◌, ◌%◌, ◌≤◌, ◌<◌, ltb, eqb, length, drop, get_or}
+use Rattle.std.specs.Prelude.{◌≡◌, refl, Bool, true, false, not, List, [], ◌∷◌, ℕ, zero, suc, ◌/◌, ◌%◌, ◌≤◌, ◌<◌, ltb, eqb, length}
 use Rattle.std.proofs.Common.{◌∙◌, arith, ltb-false, lt-ltb, le-ltb, eqb-true, eq-eqb, ne_eqb}
 use Rattle.bits.specs.Tests.{any_of}
-use Rattle.constants.specs.Limits.{max_zoom, max_boxes}
+use Rattle.constants.specs.Limits.{max_boxes}
 use Rattle.errors.specs.Answer.{◌when◌, ◌else◌}
 use Rattle.errors.specs.Laws.{else_none}
 use Rattle.tile_zbox.specs.Box.{IsBox, wrong_edges}
 use Rattle.tile_zbox.specs.Laws.{neither_of_two, edges_fine, fine_edges}
 use Rattle.tile_zbox.specs.declared.TileZBox.{TileZBox}
-use Rattle.tile_zbox_numbers.specs.Boxes.{deep, refusal_over, boxes_refusal, box_from, boxes_from, boxes_of, numbers_refusal}
-use Rattle.tile_zbox_numbers.specs.Fives.{boxes_step, boxes_count, next_box_zoom}
+use Rattle.tile_zbox_numbers.specs.Boxes.{deep, refusal_over, boxes_refusal, boxes_of, numbers_refusal}
+use Rattle.tile_zbox_numbers.specs.Fives.{boxes_count}
 
 pub any_here : (p : TileZBox → Bool) (b : TileZBox) (bs : List TileZBox) → p b ≡ true → any_of p (b ∷ bs) ≡ true
 unfolding any_of
@@ -45,12 +45,6 @@ fine_more {b} {bs} h f =
       edges =
           any_later wrong_edges b bs (fine_edges h) ∙ f.edges;
     }
-
-pub zoom_at : (n at : ℕ) (l : List ℕ) → 0 < n → any_of deep (boxes_from n (drop at l)) ≡ false → get_or l at 0 ≤ max_zoom
-zoom_at n at l h e =
-    let p = none_of deep (box_from (drop at l)) (boxes_from (n - 1) (drop (at + 5) l)) (rw (boxes_step n at l h) at e) in
-    let z : get_or (drop at l) 0 0 ≤ max_zoom = ltb-false max_zoom (get_or (drop at l) 0 0) p.0 in
-    rw (next_box_zoom l at) at z
 
 -- boxes that are not refused are those of the map, in a number that is taken
 pub over_accepted : {bs : List TileZBox} {n : ℕ} → Fine bs → n ≤ max_boxes → refusal_over bs n ≡ 0

@@ -6,7 +6,7 @@ use Rattle.std.proofs.lemmas.List.Edits.{sets, sets-eq}
 use Rattle.errors.specs.Memory.{front}
 use Rattle.tile_zbox.specs.Box.{box_at, flipped}
 use Rattle.tile_zbox.specs.declared.TileZBox.{TileZBox}
-use Rattle.tile_zbox_numbers.specs.Boxes.{box_from, boxes_from, boxes_of, numbers, numbers_of, flipped_numbers}
+use Rattle.tile_zbox_numbers.specs.Boxes.{box_from, boxes_from, boxes_of, numbers_of, flipped_numbers}
 
 -- boxes five numbers by five numbers: the box at a place, as the code reads and writes it
 pub box_at_lem : (l : List ℕ) (at : ℕ)
@@ -41,11 +41,6 @@ pub next_box_zoom : (l : List ℕ) (at : ℕ) → get_or (drop at l) 0 0 ≡ get
 next_box_zoom l at = get_or-drop at l 0 0 ∙ rw (add-zero at)
 
 -- boxes as numbers
-pub numbers_step : (b : TileZBox) (bs : List TileZBox)
-    → numbers_of (map flipped (b ∷ bs)) ≡ numbers (flipped b) ++ numbers_of (map flipped bs)
-unfolding numbers_of
-numbers_step b bs = refl
-
 pub numbers_length : (bs : List TileZBox) → length (numbers_of bs) ≡ length bs * 5
 unfolding numbers_of
 numbers_length [] = refl
@@ -68,20 +63,3 @@ front_on items memory vs rest at g e h =
     let n : take (at + length vs) items ≡ take at items ++ vs =
     take-add at (length vs) items ∙ ap (λ (x : List ℕ). take at items ++ x) (ap (take (length vs)) e ∙ take_at vs rest (length vs) refl) in
     sets-eq vs (front at items memory) at k ∙ rw (t, d, n, append_assoc)
-
--- one box more of those that are flipped
-pub flip_on : (l memory : List ℕ) (n at : ℕ) → 0 < n → at + n * 5 ≡ length l → length l % 5 ≡ 0 → length l ≤ length memory
-    → drop at (flipped_numbers l) ≡ numbers_of (map flipped (boxes_from n (drop at l)))
-    → (drop (at + 5) (flipped_numbers l) ≡ numbers_of (map flipped (boxes_from (n - 1) (drop (at + 5) l))))
-    × (sets (front at (flipped_numbers l) memory) at (numbers (flipped (box_from (drop at l)))) ≡ front (at + 5) (flipped_numbers l) memory)
-flip_on l memory n at h f w m e =
-    let b = box_from (drop at l) in
-    let bs = boxes_from (n - 1) (drop (at + 5) l) in
-    let s : drop at (flipped_numbers l) ≡ numbers (flipped b) ++ numbers_of (map flipped bs) =
-    e ∙ (ap (λ (x : List TileZBox). numbers_of (map flipped x)) (boxes_step n at l h) ∙ numbers_step b bs) in
-    let g = flipped_length l w in (
-      sym (drop-drop 5 at (flipped_numbers l))
-          ∙ ap (drop 5) s,
-      front_on (flipped_numbers l) memory (numbers (flipped b)) (numbers_of (map flipped bs)) at (omega arith) s
-          (omega arith),
-    )

@@ -7,22 +7,13 @@ ghost use Rattle.tile.specs.OnMap.{no_tile_of};
 ghost use Rattle.tile_zbox_numbers.specs.Boxes.{boxes_of, numbers_refusal};
 ghost use Rattle.tile_zboxes_iter.specs.Cursor.{boxes_cursor_at, tiles_of_all, boxes_next_case, boxes_step_from, boxes_next_of};
 
-use errors::{Refusal, U64Answer};
-use tile::Tile;
+use errors::Refusal;
+use tile::{Next, Tile};
 
 // All tiles of the first box, then those of the second, and so on: how many were given in all. The boxes are lent to each call.
-#[derive(Clone, Copy)]
+#[derive(Clone, Copy, Debug, PartialEq, Eq)]
 pub struct TileZBoxesIterator {
     pub given: u64,
-}
-
-#[derive(Clone, Copy)]
-pub enum BoxesNextAnswer {
-    // A tile, and the cursor that gives the next one.
-    Given(Tile, TileZBoxesIterator),
-    // All tiles were given: the cursor as it was.
-    End(TileZBoxesIterator),
-    Refused(Refusal),
 }
 
 impl TileZBoxesIterator {
@@ -33,36 +24,38 @@ impl TileZBoxesIterator {
         Self { given: 0 }
     }
 
-    // The next tile, box by box, and the cursor after it.
-    pub fn next(self, boxes: &[u32]) -> BoxesNextAnswer
+    // The next tile, box by box, and the cursor after it; once all were given none, and the cursor as it was.
+    pub fn next(self, boxes: &[u32]) -> Result<Next<TileZBoxesIterator>, Refusal>
         ensures { boxes_next_case result ≡ boxes_next_of self boxes.now }
     {
         let given = self.given;
-        match tile_zbox_numbers::boxes_length(boxes) {
-            U64Answer::Number(total) => step(boxes, total, given),
-            U64Answer::Refused(why) => BoxesNextAnswer::Refused(why),
-        }
+        let total = tile_zbox_numbers::boxes_length(boxes)?;
+        step(boxes, total, given)
     }
 }
 
-fn step(boxes: &[u32], total: u64, given: u64) -> BoxesNextAnswer
+fn step(boxes: &[u32], total: u64, given: u64) -> Result<Next<TileZBoxesIterator>, Refusal>
     requires boxes_value { numbers_refusal boxes.now ≡ 0 }
     requires total_value { total ≡ length (tiles_of_all (boxes_of boxes.now)) }
     ensures { boxes_next_case result ≡ boxes_step_from (tiles_of_all (boxes_of boxes.now)) given }
 {
     if given > total {
-        return BoxesNextAnswer::Refused(Refusal::NoBox);
+        return Err(Refusal::NoBox);
     }
     if given == total {
-        return BoxesNextAnswer::End(TileZBoxesIterator { given });
+        return Ok(Next {
+            tile: None,
+            rest: TileZBoxesIterator { given },
+        });
     }
-    BoxesNextAnswer::Given(
-        tile_at(boxes, given),
-        TileZBoxesIterator { given: given + 1 },
-    )
+    Ok(Next {
+        tile: Some(tile_at(boxes, given)),
+        rest: TileZBoxesIterator { given: given + 1 },
+    })
 }
 
 // The tile at a place: each box before it takes its length off the place.
+// No `for` over the boxes, which would want a tile to give past the last one: that would be no plainer.
 fn tile_at(boxes: &[u32], given: u64) -> Tile
     requires boxes_value { numbers_refusal boxes.now ≡ 0 }
     requires given_in_bounds { given < length (tiles_of_all (boxes_of boxes.now)) }

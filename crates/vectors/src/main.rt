@@ -6,17 +6,17 @@ mod area_limits;
 mod limits;
 mod slippy;
 
-use vectors_lines::tally;
+use std::io;
+use vectors_lines::tally::Tally;
 
-fn main() {
-    let mut t = tally::none();
-    t = slippy::zoom_levels(t);
-    t = slippy::deep_zoom_levels(t);
-    t = slippy::edges(t);
-    t = slippy::corner(t);
-    t = slippy::subtiles(t);
-    t = slippy::from_the_bottom(t);
-    t = limits::lists(t);
-    t = area_limits::lists(t);
-    tally::end(t);
+fn main(rt: HostRuntime) -> io::Result<()> {
+    let mut tally = Tally::new(&rt);
+    slippy::zoom_levels(&mut tally)?;
+    slippy::edges(&mut tally)?;
+    slippy::corner(&mut tally)?;
+    slippy::subtiles(&mut tally)?;
+    slippy::from_the_bottom(&mut tally)?;
+    limits::lists(&mut tally)?;
+    area_limits::lists(&mut tally, rt.alloc())?;
+    tally.end()
 }

@@ -1,152 +1,162 @@
 // The OpenStreetMap wiki's page "Slippy map tilenames", as far as it needs no sine: how many tiles a zoom has, the edges of the map, tiles
 // under and above a tile, and rows counted from the bottom as TMS does.
-use fns::LimitsAnswer;
-use tile::OptionU8;
-use tile_zbox::{BoxAnswer, ExtentAnswer, TileZBox};
+use errors::Refusal;
+use std::fmt::{self, Display};
+use std::io;
+use tile::Tile;
+use tile_zbox::TileZBox;
+use vectors_lines::shown::{Answer, Place, PlaceOf};
 use vectors_lines::tally::Tally;
-use vectors_lines::text::Text;
-use vectors_lines::{tally, text};
 
-pub fn zoom_levels(before: Tally) -> Tally {
-    let mut t = before;
-    tally::source(
-        b"OpenStreetMap wiki, Slippy map tilenames, Zoom levels: 2^n x 2^n tiles, 2^2n in all",
-    );
-    t = tiles(t, 0, b"1 x 1, 1 in all");
-    t = tiles(t, 1, b"2 x 2, 4 in all");
-    t = tiles(t, 2, b"4 x 4, 16 in all");
-    tiles(t, 12, b"4096 x 4096, 16777216 in all")
+// How many tiles a zoom has: from west to east, from north to south, and in all.
+#[derive(Clone, Copy)]
+struct Size {
+    across: u32,
+    down: u32,
+    tiles: u64,
 }
 
-pub fn deep_zoom_levels(before: Tally) -> Tally {
-    let mut t = before;
-    t = tiles(t, 16, b"65536 x 65536, 4294967296 in all");
-    t = tiles(t, 17, b"131072 x 131072, 17179869184 in all");
-    t = tiles(t, 18, b"262144 x 262144, 68719476736 in all");
-    tiles(t, 19, b"524288 x 524288, 274877906944 in all")
-}
-
-fn tiles(t: Tally, z: u8, says: &[u8]) -> Tally {
-    at_zoom(b"tiles of zoom ", z);
-    let gives = match TileZBox::from_tile(0, 0, 0) {
-        BoxAnswer::Found(root) => size(root.zoom_depth(z)),
-        BoxAnswer::Refused(why) => text::refusal(text::none(), why),
-    };
-    tally::told(t, says, gives)
-}
-
-fn at_zoom(what: &[u8], z: u8) {
-    tally::asked(what);
-    io::print_decimal(1, z as u64);
-}
-
-fn size(answer: BoxAnswer) -> Text {
-    match answer {
-        BoxAnswer::Found(all) => {
-            let sides = text::put(across(all.dimensions()), b", ");
-            text::put(text::of_u64(sides, all.length()), b" in all")
-        }
-        BoxAnswer::Refused(why) => text::refusal(text::none(), why),
+impl Display for Size {
+    fn fmt<W: fmt::Write>(&self, f: &mut fmt::Formatter<W>) -> fmt::Result {
+        let Size {
+            across,
+            down,
+            tiles,
+        } = *self;
+        write!(f, "{across} x {down}, {tiles} in all")
     }
 }
 
-fn across(answer: ExtentAnswer) -> Text {
-    match answer {
-        ExtentAnswer::Found(sides) => {
-            let columns = text::number(text::none(), sides.across as u64);
-            text::number(text::put(columns, b" x "), sides.down as u64)
-        }
-        ExtentAnswer::Refused(why) => text::refusal(text::none(), why),
+pub fn zoom_levels<R: Print + Alloc>(tally: &mut Tally<'_, R>) -> io::Result<()> {
+    tally.source(
+        "OpenStreetMap wiki, Slippy map tilenames, Zoom levels: 2^n x 2^n tiles, 2^2n in all",
+    )?;
+    for (z, says) in [
+        (0, "1 x 1, 1 in all"),
+        (1, "2 x 2, 4 in all"),
+        (2, "4 x 4, 16 in all"),
+        (12, "4096 x 4096, 16777216 in all"),
+        (16, "65536 x 65536, 4294967296 in all"),
+        (17, "131072 x 131072, 17179869184 in all"),
+        (18, "262144 x 262144, 68719476736 in all"),
+        (19, "524288 x 524288, 274877906944 in all"),
+    ] {
+        tally.told(
+            format_args!("tiles of zoom {z}"),
+            says,
+            Answer(size_of_zoom(z)),
+        )?;
+    }
+    Ok(())
+}
+
+fn size_of_zoom(z: u8) -> Result<Size, Refusal> {
+    let all = TileZBox::from_tile(0, 0, 0)?.zoom_depth(z)?;
+    let sides = all.dimensions()?;
+    Ok(Size {
+        across: sides.across,
+        down: sides.down,
+        tiles: all.length()?,
+    })
+}
+
+// The first and the last column, and row.
+#[derive(Clone, Copy)]
+struct Span {
+    first: u32,
+    last: u32,
+}
+
+impl Display for Span {
+    fn fmt<W: fmt::Write>(&self, f: &mut fmt::Formatter<W>) -> fmt::Result {
+        let Span { first, last } = *self;
+        write!(f, "{first} to {last}")
     }
 }
 
-pub fn edges(before: Tally) -> Tally {
-    let mut t = before;
-    tally::source(b"OpenStreetMap wiki, Slippy map tilenames, X and Y: from 0 to 2^zoom - 1");
-    t = edge(t, 0, b"0 to 0");
-    t = edge(t, 1, b"0 to 1");
-    t = edge(t, 2, b"0 to 3");
-    edge(t, 18, b"0 to 262143")
-}
-
-pub fn corner(before: Tally) -> Tally {
-    let mut t = before;
-    t = on_map(t, 0, 0, b"tile");
-    t = on_map(t, 3, 3, b"tile");
-    t = on_map(t, 4, 0, b"no tile");
-    on_map(t, 0, 4, b"no tile")
-}
-
-fn edge(t: Tally, z: u8, says: &[u8]) -> Tally {
-    at_zoom(b"x and y at zoom ", z);
-    let gives = match fns::minmax(z) {
-        LimitsAnswer::Found(side) => {
-            let first = text::number(text::none(), side.min as u64);
-            text::number(text::put(first, b" to "), side.max as u64)
-        }
-        LimitsAnswer::Refused(why) => text::refusal(text::none(), why),
-    };
-    tally::told(t, says, gives)
+pub fn edges<R: Print + Alloc>(tally: &mut Tally<'_, R>) -> io::Result<()> {
+    tally.source("OpenStreetMap wiki, Slippy map tilenames, X and Y: from 0 to 2^zoom - 1")?;
+    for (z, says) in [
+        (0, "0 to 0"),
+        (1, "0 to 1"),
+        (2, "0 to 3"),
+        (18, "0 to 262143"),
+    ] {
+        let edges = fns::minmax(z).map(|side| Span {
+            first: side.min,
+            last: side.max,
+        });
+        tally.told(format_args!("x and y at zoom {z}"), says, Answer(edges))?;
+    }
+    Ok(())
 }
 
 // Whether zoom 2 has a tile there.
-fn on_map(t: Tally, x: u32, y: u32, says: &[u8]) -> Tally {
-    tally::asked(b"x ");
-    io::print_decimal(1, x as u64);
-    io::write_all(1, b", y ");
-    io::print_decimal(1, y as u64);
-    io::write_all(1, b" at zoom 2");
-    if fns::valid(x, y, 2) {
-        return tally::told(t, says, text::put(text::none(), b"tile"));
+pub fn corner<R: Print + Alloc>(tally: &mut Tally<'_, R>) -> io::Result<()> {
+    for (x, y, says) in [
+        (0, 0, "tile"),
+        (3, 3, "tile"),
+        (4, 0, "no tile"),
+        (0, 4, "no tile"),
+    ] {
+        let gives = if fns::valid(x, y, 2) {
+            "tile"
+        } else {
+            "no tile"
+        };
+        tally.told(format_args!("x {x}, y {y} at zoom 2"), says, gives)?;
     }
-    tally::told(t, says, text::put(text::none(), b"no tile"))
+    Ok(())
 }
 
-pub fn subtiles(before: Tally) -> Tally {
-    let mut t = before;
-    tally::source(
-        b"OpenStreetMap wiki, Slippy map tilenames, Subtiles: 2x, 2y; 2x + 1, 2y; 2x, 2y + 1; 2x + 1, 2y + 1; zoom out by halving x and y",
-    );
-    tally::asked(b"subtiles of (0,0,0)");
-    t = tally::told(t, b"(0,0,1) (1,0,1) (0,1,1) (1,1,1)", four(0, 0, 0));
-    tally::asked(b"subtiles of (3,5,3)");
-    t = tally::told(t, b"(6,10,4) (7,10,4) (6,11,4) (7,11,4)", four(3, 5, 3));
-    tally::asked(b"zoomed out from (7,11,4)");
-    t = tally::told(t, b"(3,5,3)", above(7, 11, 4));
-    tally::asked(b"zoomed out from (3,5,3)");
-    tally::told(t, b"(1,2,2)", above(3, 5, 3))
+pub fn subtiles<R: Print + Alloc>(tally: &mut Tally<'_, R>) -> io::Result<()> {
+    tally.source(
+        "OpenStreetMap wiki, Slippy map tilenames, Subtiles: 2x, 2y; 2x + 1, 2y; 2x, 2y + 1; 2x + 1, 2y + 1; zoom out by halving x and y",
+    )?;
+    for (x, y, z, says) in [
+        (0, 0, 0, "(0,0,1) (1,0,1) (0,1,1) (1,1,1)"),
+        (3, 5, 3, "(6,10,4) (7,10,4) (6,11,4) (7,11,4)"),
+    ] {
+        let asked = Place(Tile { x, y, z });
+        tally.told(
+            format_args!("subtiles of {asked}"),
+            says,
+            Answer(children_of(x, y, z)),
+        )?;
+    }
+    for (x, y, z, says) in [(7, 11, 4, "(3,5,3)"), (3, 5, 3, "(1,2,2)")] {
+        let asked = Place(Tile { x, y, z });
+        let above = fns::parent(x, y, z, None).map(|up| Place(up.tile));
+        tally.told(format_args!("zoomed out from {asked}"), says, Answer(above))?;
+    }
+    Ok(())
 }
 
-fn four(x: u32, y: u32, z: u8) -> Text {
-    let mut list = [0u64; 4];
-    children::children1_zorder(x, y, z, &mut list);
-    let two = entry(entry(text::none(), list[0]), list[1]);
-    entry(entry(two, list[2]), list[3])
+// The children of a tile.
+#[derive(Clone, Copy)]
+struct Family([u64; 4]);
+
+impl Display for Family {
+    fn fmt<W: fmt::Write>(&self, f: &mut fmt::Formatter<W>) -> fmt::Result {
+        let [a, b, c, d] = self.0.map(PlaceOf);
+        write!(f, "{a} {b} {c} {d}")
+    }
 }
 
-fn entry(t: Text, n: u64) -> Text {
-    text::of_tile(text::apart(t), ids::entry_tile(n))
+fn children_of(x: u32, y: u32, z: u8) -> Result<Family, Refusal> {
+    let mut list = [0; 4];
+    children::children1_zorder(x, y, z, &mut list)?;
+    Ok(Family(list))
 }
 
-fn above(x: u32, y: u32, z: u8) -> Text {
-    let up = fns::parent(x, y, z, OptionU8::None);
-    let tile = up.tile;
-    text::of_tile(text::none(), tile)
-}
-
-pub fn from_the_bottom(before: Tally) -> Tally {
-    let mut t = before;
-    tally::source(b"OpenStreetMap wiki, TMS: y from the bottom is 2^zoom - 1 - y");
-    t = flipped(t, 0, 0, b"0");
-    t = flipped(t, 5, 3, b"2");
-    t = flipped(t, 2, 3, b"5");
-    flipped(t, 0, 18, b"262143")
-}
-
-fn flipped(t: Tally, y: u32, z: u8, says: &[u8]) -> Tally {
-    tally::asked(b"y ");
-    io::print_decimal(1, y as u64);
-    io::write_all(1, b" at zoom ");
-    io::print_decimal(1, z as u64);
-    tally::told(t, says, text::of_u32(text::none(), fns::flipy(y, z)))
+pub fn from_the_bottom<R: Print + Alloc>(tally: &mut Tally<'_, R>) -> io::Result<()> {
+    tally.source("OpenStreetMap wiki, TMS: y from the bottom is 2^zoom - 1 - y")?;
+    for (y, z, says) in [(0, 0, "0"), (5, 3, "2"), (2, 3, "5"), (0, 18, "262143")] {
+        tally.told(
+            format_args!("y {y} at zoom {z}"),
+            says,
+            Answer(fns::flipy(y, z)),
+        )?;
+    }
+    Ok(())
 }

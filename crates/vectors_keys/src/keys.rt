@@ -1,85 +1,77 @@
 // What document 01 says of keys: the calls that it adds, a part of the caller's own key and beside it the number by which it is refused,
 // and the limit of a key's digits.
-use tile::TileAnswer;
+use std::fmt::{self, Display};
+use std::io;
+use vectors_lines::shown::{Answer, Digits};
 use vectors_lines::tally::Tally;
-use vectors_lines::text::Text;
-use vectors_lines::{tally, text};
 
 // One digit more than a key may have.
-const LONG: [u8; 31] = [b'3'; 31];
-
-pub fn ancestors(before: Tally) -> Tally {
-    let mut t = before;
-    tally::source(
-        b"Document 01, Quadkey: an ancestor's key is the leading part of a key, longer is 3",
-    );
-    t = ancestor(t, b"130", 0, b"-");
-    t = ancestor(t, b"130", 2, b"13");
-    t = ancestor(t, b"130", 3, b"130");
-    t = ancestor(t, b"130", 4, b"refusal 3");
-    t = ancestor(t, b"134", 2, b"refusal 5");
-    t = ancestor(t, &LONG, 31, b"refusal 4");
-    ancestor(t, &LONG, 32, b"refusal 3")
-}
-
-fn ancestor(t: Tally, key: &[u8], n: usize, says: &[u8]) -> Tally {
-    tally::asked(b"first ");
-    io::print_decimal(1, n as u64);
-    io::write_all(1, b" digits of ");
-    io::write_all(1, key);
-    let refused = key_parts::ancestor_key_refusal(key, n);
-    tally::told(t, says, part(refused, key_parts::ancestor_key(key, n)))
-}
-
-pub fn shared(before: Tally) -> Tally {
-    let mut t = before;
-    tally::source(b"Document 01, Quadkey: of two keys, the key of their deepest shared ancestor");
-    t = shared_by(t, b"130", b"133", b"13");
-    t = shared_by(t, b"13", b"130", b"13");
-    t = shared_by(t, b"0", b"3", b"-");
-    t = shared_by(t, b"130", b"134", b"refusal 5");
-    t = shared_by(t, b"130", &LONG, b"refusal 4");
-    shared_by(t, b"134", &LONG, b"refusal 4")
-}
-
-fn shared_by(t: Tally, a: &[u8], b: &[u8], says: &[u8]) -> Tally {
-    tally::asked(b"what ");
-    io::write_all(1, a);
-    io::write_all(1, b" and ");
-    io::write_all(1, b);
-    io::write_all(1, b" share");
-    let refused = key_parts::shared_key_refusal(a, b);
-    tally::told(t, says, part(refused, key_parts::shared_key(a, b)))
-}
+const LONG: &str = "3333333333333333333333333333333";
 
 // The part that is handed back, `-` if it is empty. Behind a refusal stands the part that came with it, which is to be nothing.
-fn part(refused: u8, bytes: &[u8]) -> Text {
-    if refused != 0 {
-        let why = text::number(text::put(text::none(), b"refusal "), refused as u64);
-        return text::put(why, bytes);
-    }
-    if bytes.len() == 0 {
-        return text::put(text::none(), b"-");
-    }
-    text::put(text::none(), bytes)
+#[derive(Clone, Copy)]
+struct Part<'a> {
+    refused: u8,
+    bytes: &'a [u8],
 }
 
-pub fn digits(before: Tally) -> Tally {
-    let key = LONG;
-    tally::source(b"Document 02, K11: Document 01's plates with 29 and 30 digits become 30 and 31");
-    tally::asked(b"30 digits");
-    let t = tally::told(
-        before,
-        b"accepted",
-        read(key_reader::quadkey2xyz(&key[..30])),
-    );
-    tally::asked(b"31 digits");
-    tally::told(t, b"refusal 4", read(key_reader::quadkey2xyz(&key)))
+impl Display for Part<'_> {
+    fn fmt<W: fmt::Write>(&self, f: &mut fmt::Formatter<W>) -> fmt::Result {
+        let digits = Digits(self.bytes);
+        match (self.refused, self.bytes) {
+            (0, []) => f.write_str("-"),
+            (0, _) => write!(f, "{digits}"),
+            (number, _) => write!(f, "refusal {number}{digits}"),
+        }
+    }
 }
 
-fn read(answer: TileAnswer) -> Text {
-    match answer {
-        TileAnswer::Found(_) => text::put(text::none(), b"accepted"),
-        TileAnswer::Refused(why) => text::refusal(text::none(), why),
+pub fn ancestors<R: Print + Alloc>(tally: &mut Tally<'_, R>) -> io::Result<()> {
+    tally.source(
+        "Document 01, Quadkey: an ancestor's key is the leading part of a key, longer is 3",
+    )?;
+    for (key, n, says) in [
+        ("130", 0, "-"),
+        ("130", 2, "13"),
+        ("130", 3, "130"),
+        ("130", 4, "refusal 3"),
+        ("134", 2, "refusal 5"),
+        (LONG, 31, "refusal 4"),
+        (LONG, 32, "refusal 3"),
+    ] {
+        let part = Part {
+            refused: key_parts::ancestor_key_refusal(key.as_bytes(), n),
+            bytes: key_parts::ancestor_key(key.as_bytes(), n),
+        };
+        tally.told(format_args!("first {n} digits of {key}"), says, part)?;
     }
+    Ok(())
+}
+
+pub fn shared<R: Print + Alloc>(tally: &mut Tally<'_, R>) -> io::Result<()> {
+    tally.source("Document 01, Quadkey: of two keys, the key of their deepest shared ancestor")?;
+    for (a, b, says) in [
+        ("130", "133", "13"),
+        ("13", "130", "13"),
+        ("0", "3", "-"),
+        ("130", "134", "refusal 5"),
+        ("130", LONG, "refusal 4"),
+        ("134", LONG, "refusal 4"),
+    ] {
+        let part = Part {
+            refused: key_parts::shared_key_refusal(a.as_bytes(), b.as_bytes()),
+            bytes: key_parts::shared_key(a.as_bytes(), b.as_bytes()),
+        };
+        tally.told(format_args!("what {a} and {b} share"), says, part)?;
+    }
+    Ok(())
+}
+
+pub fn digits<R: Print + Alloc>(tally: &mut Tally<'_, R>) -> io::Result<()> {
+    tally.source("Document 02, K11: Document 01's plates with 29 and 30 digits become 30 and 31")?;
+    let key = LONG.as_bytes();
+    let read = Answer(key_reader::quadkey2xyz(&key[..30]).map(|_| "accepted"));
+    tally.told("30 digits", "accepted", read)?;
+    let read = Answer(key_reader::quadkey2xyz(key).map(|_| "accepted"));
+    tally.told("31 digits", "refusal 4", read)
 }

@@ -8,23 +8,22 @@ mod keys;
 mod pictures;
 mod steps;
 
-use vectors_lines::tally;
+use std::io;
+use vectors_lines::tally::Tally;
 
-fn main() {
-    let mut t = tally::none();
-    t = bing::levels(t);
-    t = bing::tile_3_5(t);
-    t = bing::children_of_2(t);
-    t = bing::children_of_13(t);
-    t = bing::leading_parts(t);
-    t = pictures::levels_1_and_2(t);
-    t = pictures::level_3(t);
-    t = keys::ancestors(t);
-    t = keys::shared(t);
-    t = keys::digits(t);
-    t = deepest::keys(t);
-    t = deepest::numbers(t);
-    t = steps::of_the_page(t);
-    t = steps::of_the_longest(t);
-    tally::end(t);
+fn main(rt: HostRuntime) -> io::Result<()> {
+    let mut tally = Tally::new(&rt);
+    bing::levels(&mut tally)?;
+    bing::tile_3_5(&mut tally)?;
+    bing::families(&mut tally)?;
+    bing::leading_parts(&mut tally)?;
+    pictures::levels(&mut tally, rt.alloc())?;
+    keys::ancestors(&mut tally)?;
+    keys::shared(&mut tally)?;
+    keys::digits(&mut tally)?;
+    deepest::keys(&mut tally)?;
+    deepest::numbers(&mut tally)?;
+    steps::of_the_page(&mut tally)?;
+    steps::of_the_longest(&mut tally)?;
+    tally.end()
 }

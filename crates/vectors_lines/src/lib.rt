@@ -1,5 +1,6 @@
-// What `vectors` and `vectors_keys` share: a line for each example says what its source says and what the library gives.
+// What `vectors`, `vectors_keys` and `plates` share: how an answer is printed, and a line for each example, which says what its source
+// says and what the library gives.
 #![tactic(auto)]
 
+pub mod shown;
 pub mod tally;
-pub mod text;

@@ -1,67 +1,48 @@
 // The lines that are printed, and how many were checked.
-use crate::text::Text;
-use replay::parts;
+use std::fmt::Display;
+use std::io;
 
-#[derive(Clone, Copy)]
-pub struct Tally {
-    pub checked: u64,
-    pub differ: u64,
+#[derive(Drop)]
+pub struct Tally<'a, R> {
+    rt: &'a R,
+    checked: u64,
+    differ: u64,
 }
 
-pub fn none() -> Tally {
-    Tally {
-        checked: 0,
-        differ: 0,
+impl<'a, R: Print + Alloc> Tally<'a, R> {
+    pub fn new(rt: &'a R) -> Tally<'a, R> {
+        Tally {
+            rt,
+            checked: 0,
+            differ: 0,
+        }
     }
-}
 
-// The source that the lines below it come from.
-pub fn source(name: &[u8]) {
-    say(name);
-    say(b"\n");
-}
-
-// What the library was asked: the line begins with it.
-pub fn asked(what: &[u8]) {
-    say(b"  ");
-    say(what);
-}
-
-// Ends the line: what the source says, and what the library gives.
-pub fn told(t: Tally, says: &[u8], gives: Text) -> Tally {
-    let room = gives.bytes;
-    let given = parts::bytes(&room, 0, gives.length);
-    say(b": says ");
-    say(says);
-    say(b", gives ");
-    say(given);
-    if check::same(says, given) {
-        say(b"\n");
-        return one_more(t, 0);
+    // The source that the lines below it come from.
+    pub fn source(&self, name: &str) -> io::Result<()> {
+        println!(self.rt; "{name}")
     }
-    say(b", DIFFERS\n");
-    one_more(t, 1)
-}
 
-pub fn told_text(t: Tally, says: Text, gives: Text) -> Tally {
-    let room = says.bytes;
-    told(t, parts::bytes(&room, 0, says.length), gives)
-}
-
-fn one_more(t: Tally, differs: u64) -> Tally {
-    Tally {
-        checked: std::num::wrapping_add_u64(t.checked, 1),
-        differ: std::num::wrapping_add_u64(t.differ, differs),
+    // A line: what the library was asked, what the source says, and what the library gives.
+    pub fn told(
+        &mut self,
+        asked: impl Display + Drop,
+        says: impl Display + Drop,
+        gives: impl Display + Drop,
+    ) -> io::Result<()> {
+        let says = says.to_string(self.rt.alloc())?;
+        let gives = gives.to_string(self.rt.alloc())?;
+        self.checked = self.checked.wrapping_add(1);
+        if says.as_str() == gives.as_str() {
+            return println!(self.rt; "  {asked}: says {says}, gives {gives}");
+        }
+        self.differ = self.differ.wrapping_add(1);
+        println!(self.rt; "  {asked}: says {says}, gives {gives}, DIFFERS")
     }
-}
 
-pub fn end(t: Tally) {
-    io::print_decimal(1, t.checked);
-    say(b" vectors, ");
-    io::print_decimal(1, t.differ);
-    say(b" differ\n");
-}
-
-fn say(text: &[u8]) {
-    io::write_all(1, text);
+    pub fn end(&self) -> io::Result<()> {
+        let checked = self.checked;
+        let differ = self.differ;
+        println!(self.rt; "{checked} vectors, {differ} differ")
+    }
 }

@@ -1,5 +1,5 @@
 -- The places that are asked for what is made of two lists, and the list that stands in them.
-use Rattle.std.specs.Prelude.{◌≡◌, ◌⊎◌, Bool, List, ◌++◌, ℕ, ◌+◌, ◌-◌, ◌≤◌, length, take, drop, replicate}
+use Rattle.std.specs.Prelude.{replicate, ◌≡◌, ◌⊎◌, Bool, List, ◌++◌, ℕ, ◌+◌, ◌-◌, ◌≤◌, length, take, drop}
 use Rattle.std.proofs.Common.{sym, ap, ◌∙◌, inl, inr, arith, length-append, take-append-drop, length-take-le}
 use Rattle.overlay.specs.Overlay.{union_set, common_set, left_entries, LeftIn}
 use Rattle.tile.specs.declared.Tile.{Tile}

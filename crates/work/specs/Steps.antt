@@ -1,7 +1,8 @@
 -- What the steps of the code ask and leave.
 use Rattle.std.specs.Prelude.{◌≡◌, Bool, true, false, ◌&&◌, List, ◌++◌, map, ℕ, ◌+◌, ◌≤◌, length}
 use Rattle.bits.specs.Tests.{all_of}
-use Rattle.work.specs.Work.{simplification_set, value_of, sorted_by, locations_of, overlay_items, overlay_places, pair_tests}
+use Rattle.work.specs.Work.{simplification_set, sorted_by, locations_of, overlay_items, overlay_places, pair_tests}
+use Rattle.work.specs.declared.Outcome.{Outcome}
 use Rattle.work.specs.declared.Overlay.{Overlay}
 use Rattle.work.specs.declared.Simplification.{Simplification}
 use Rattle.work.specs.declared.Simplification.TheVariants.{Merge, SimplifyV1, Simplify}
@@ -28,13 +29,10 @@ Changes Merge m S b = (b ≡ false → (t : Tile) → joins m S t ≡ false) × 
 Changes SimplifyV1 m S b = b ≡ false
 Changes Simplify m S b = b ≡ false
 
--- the keys of a set's tiles are turned into the list of the set that is left, and r is the value
-pub record Simplifies (which : Simplification) (m : ℕ) (keys after : List ℕ) (r : ℕ) : Type 0 where
-  pub count : ℕ
-  pub changed : Bool
-  pub value : r ≡ value_of which count changed
-  pub listed : Listed (simplification_set which m (named (sort_tile (sorted_by which)) keys)) after count
-  pub changes : Changes which m (named (sort_tile (sorted_by which)) keys) changed
+-- the keys of a set's tiles are turned into the list of the set that is left, and r tells its count and what changed
+pub record Simplifies (which : Simplification) (m : ℕ) (keys after : List ℕ) (r : Outcome) : Type 0 where
+  pub listed : Listed (simplification_set which m (named (sort_tile (sorted_by which)) keys)) after r.count
+  pub changes : Changes which m (named (sort_tile (sorted_by which)) keys) r.yes
 
 -- whether both are lists of entries, and then the locations of their tiles, one list behind the other
 pub record KeyedBoth (a b keys : List ℕ) (r : Bool) : Type 0 where

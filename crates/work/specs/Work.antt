@@ -3,20 +3,24 @@
 --
 --   changes_of      what `merge` says of change
 --   work_refusal    the refusals behind 6, in the order of their tests
---   work_value      the value where nothing is refused
+--   work_value      what it says where nothing is refused
 --   work_left       what the lent memory holds then
---   work_of         the three together, with 6
---   told_left       how the code hands a refusal or a value back in one number
-use Rattle.std.specs.Prelude.{◌≡◌, ◌⊎◌, Bool, false, not, cond, ◌&&◌, ◌||◌, List, map, ℕ, zero, suc, ◌+◌, ◌-◌, ◌*◌, ltb, length}
+--   outcome_of      the three together, with 6
+--   work_of         the same with the count alone
+--   told_left       what the code hands back
+use Rattle.std.specs.Prelude.{Bool, false, not, ◌&&◌, ◌||◌, List, map, ℕ, zero, suc, ◌+◌, ltb, length, Result}
 use Rattle.bits.specs.Tests.{all_of, any_of}
 use Rattle.work.specs.declared.Overlay.{Overlay}
 use Rattle.work.specs.declared.Overlay.TheVariants.{Union, Common, Difference}
 use Rattle.work.specs.declared.Simplification.{Simplification}
 use Rattle.work.specs.declared.Simplification.TheVariants.{Merge, SimplifyV1, Simplify}
+use Rattle.work.specs.declared.Outcome.{Outcome}
 use Rattle.work.specs.declared.Work.{Work}
 use Rattle.work.specs.declared.Work.TheVariants.{Simplified, Tested, Overlaid}
 use Rattle.constants.specs.Limits.{max_zoom, max_entries}
 use Rattle.errors.specs.Answer.{Lent, ◌when◌, ◌else◌}
+use Rattle.errors.specs.Cases.{case_of}
+use Rattle.errors.specs.declared.Refusal.{Refusal}
 use Rattle.ids.specs.Entry.{entry_tile, is_entry}
 use Rattle.overlay.specs.Overlay.{union_set, common_set, left_entries}
 use Rattle.quadtree.specs.Lists.{entry_key}
@@ -46,12 +50,6 @@ abbrev pub changes_of : Simplification → ℕ → List ℕ → Bool
 changes_of Merge m list = merge_changes m list
 changes_of SimplifyV1 m list = false
 changes_of Simplify m list = false
-
--- the count of the entries; of a merge twice that, and 1 more if it changed anything
-abbrev pub value_of : Simplification → ℕ → Bool → ℕ
-value_of Merge count changed = 2 * count + cond changed 1 0
-value_of SimplifyV1 count changed = count
-value_of Simplify count changed = count
 
 -- the number of a tile that its list is sorted by
 abbrev pub sorted_by : Simplification → Key
@@ -87,10 +85,10 @@ work_refusal Tested a b memory = 7 when not (all_of is_entry a)
 work_refusal (Overlaid which) a b memory =
     pair_tests a b else 12 when ltb (length memory) (overlay_places which (locations_of a) (locations_of b))
 
-abbrev pub work_value : Work → ℕ → List ℕ → List ℕ → ℕ
-work_value (Simplified which) m a b = value_of which (length (simplification_items which m a)) (changes_of which m a)
-work_value Tested m a b = cond (is_settled a) 1 0
-work_value (Overlaid which) m a b = length (overlay_items which (locations_of a) (locations_of b))
+abbrev pub work_value : Work → ℕ → List ℕ → List ℕ → Outcome
+work_value (Simplified which) m a b = record { count = length (simplification_items which m a); yes = changes_of which m a }
+work_value Tested m a b = record { count = 0; yes = is_settled a }
+work_value (Overlaid which) m a b = record { count = length (overlay_items which (locations_of a) (locations_of b)); yes = false }
 
 abbrev pub work_left : Work → ℕ → List ℕ → List ℕ → List ℕ → List ℕ
 work_left (Simplified which) m a b memory = filled (length a) (simplification_items which m a) memory
@@ -98,31 +96,31 @@ work_left Tested m a b memory = memory
 work_left (Overlaid which) m a b memory =
     filled (overlay_places which (locations_of a) (locations_of b)) (overlay_items which (locations_of a) (locations_of b)) memory
 
+-- the zero of the type
+abbrev pub no_outcome : Outcome
+no_outcome = record { count = 0; yes = false }
+
 -- a refusal and the memory as it was, or a value and what is left in the memory
-abbrev pub told_as : ℕ → ℕ → List ℕ → List ℕ → Lent ℕ
+abbrev pub told_as : ℕ → Outcome → List ℕ → List ℕ → Lent Outcome
 told_as zero value after memory = record { number = 0; value = value; memory = after }
-told_as (suc n) value after memory = record { number = suc n; value = 0; memory = memory }
+told_as (suc n) value after memory = record { number = suc n; value = no_outcome; memory = memory }
 
 -- of lists that are not too long
-abbrev pub few_of : Work → ℕ → List ℕ → List ℕ → List ℕ → Lent ℕ
+abbrev pub few_of : Work → ℕ → List ℕ → List ℕ → List ℕ → Lent Outcome
 few_of work m a b memory = told_as (work_refusal work a b memory) (work_value work m a b) (work_left work m a b memory) memory
 
 -- 6 is tested first, also of a second list that is not worked on: the doors of such works hand on an empty one
-abbrev pub work_of : Work → ℕ → List ℕ → List ℕ → List ℕ → Lent ℕ
-work_of work m a b memory =
+abbrev pub outcome_of : Work → ℕ → List ℕ → List ℕ → List ℕ → Lent Outcome
+outcome_of work m a b memory =
     told_as (6 when (ltb max_entries (length a) || ltb max_entries (length b)) else work_refusal work a b memory)
     (work_value work m a b) (work_left work m a b memory) memory
 
--- An answer in one number: below `first_value` it is one less than a refusal's number, else the value stands that much higher.
-abbrev pub first_value : ℕ
-first_value = 32
+abbrev pub count_of : Lent Outcome → Lent ℕ
+count_of l = record { number = l.number; value = l.value.count; memory = l.memory }
 
-abbrev pub told_number : ℕ → ℕ
-told_number r = cond (ltb r first_value) (suc r) 0
+abbrev pub work_of : Work → ℕ → List ℕ → List ℕ → List ℕ → Lent ℕ
+work_of work m a b memory = count_of (outcome_of work m a b memory)
 
-abbrev pub told_left : ℕ → List ℕ → Lent ℕ
-told_left r memory = record { number = told_number r; value = r - first_value; memory = memory }
-
--- the refusals that a list can meet
-abbrev pub OfLists : ℕ → Type 0
-OfLists n = (n ≡ 6) ⊎ (n ≡ 7) ⊎ (n ≡ 11) ⊎ (n ≡ 12)
+-- an answer of the code beside its memory
+abbrev pub told_left : Result Outcome Refusal → List ℕ → Lent Outcome
+told_left r memory = record { number = (case_of no_outcome r).number; value = (case_of no_outcome r).value; memory = memory }

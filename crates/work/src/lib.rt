@@ -2,28 +2,28 @@
 // locations only and refuses nothing.
 #![tactic(auto)]
 
-ghost use Rattle.std.specs.Prelude.{◌≡◌, true, [], suc, ◌+◌, ◌*◌, ◌≤◌, ltb, length, take, drop};
+ghost use Rattle.std.specs.Prelude.{◌≡◌, true, [], ◌+◌, ◌*◌, ◌≤◌, ltb, length, take, drop};
 ghost use Rattle.constants.specs.Limits.{max_entries};
-ghost use Rattle.errors.specs.Answer.{number_of};
+ghost use Rattle.errors.specs.Cases.{check_number};
 ghost use Rattle.overlay.specs.Overlay.{TwoSets};
 ghost use Rattle.quadtree.specs.Lists.{sort_key, TileNumbers};
 ghost use Rattle.work.specs.Steps.{InScratch, Simplifies, KeyedBoth, SettledBoth, Located, Overlays};
-ghost use Rattle.work.specs.Work.{work_of, few_of, told_left, sorted_by, overlay_places};
+ghost use Rattle.work.specs.Work.{outcome_of, few_of, told_left, sorted_by, overlay_places};
 ghost use Rattle.work.specs.declared.Work.TheVariants.{Simplified, Tested, Overlaid};
 
 use errors::Refusal;
 use quadtree::Key;
 
-// What leaves fewer tiles of one list.
-#[derive(Clone, Copy)]
+// What leaves fewer tiles of one list. An enum, since the promises and theorems of `work_of` speak of its cases.
+#[derive(Clone, Copy, Debug, PartialEq, Eq)]
 pub enum Simplification {
     Merge,
     SimplifyV1,
     Simplify,
 }
 
-// What is made of two settled lists.
-#[derive(Clone, Copy)]
+// What is made of two settled lists. An enum, since the promises and theorems of `work_of` speak of its cases.
+#[derive(Clone, Copy, Debug, PartialEq, Eq)]
 pub enum Overlay {
     Union,
     Common,
@@ -31,19 +31,25 @@ pub enum Overlay {
 }
 
 // What is done with lists. Only an overlay has a second one; for the others it is empty.
-#[derive(Clone, Copy)]
+// An enum and no closure, since the promises and theorems of `work_of` speak of its cases.
+#[derive(Clone, Copy, Debug, PartialEq, Eq)]
 pub enum Work {
     Simplified(Simplification),
     Tested,
     Overlaid(Overlay),
 }
 
-// An answer in one number: below this it is one less than a refusal's number, else the value stands that much higher. A number is handed
-// back in a register, where an enum goes through memory at every call, which a short list feels.
-pub const FIRST_VALUE: usize = 32;
+// What a work says where nothing is refused.
+#[derive(Clone, Copy, Debug, PartialEq, Eq)]
+pub struct Outcome {
+    // How many entries the answer has.
+    pub count: usize,
+    // Whether a merge joined anything, or the tested list is settled.
+    pub yes: bool,
+}
 
-// What is done with lists of entries, and the answer in one number. Nothing is written to the lent memory before the last refusal is
-// decided.
+// `b` and `m` stand beside the work and not in its cases: the promise `outcome_of` takes them so, whichever the work is.
+// What is done with lists of entries. Nothing is written to the lent memory before the last refusal is decided.
 pub fn work_in(
     a: &[u64],
     b: &[u64],
@@ -52,9 +58,9 @@ pub fn work_in(
     out: &mut [u64],
     keys: &mut [u64],
     spare: &mut [u64],
-) -> usize
+) -> Result<Outcome, Refusal>
     requires { InScratch a.now b.now (length keys.old) }
-    ensures { told_left result out.new ≡ work_of work m a.now b.now out.old }
+    ensures { told_left result out.new ≡ outcome_of work m a.now b.now out.old }
 {
     let n = a.len();
     match work {
@@ -64,25 +70,24 @@ pub fn work_in(
     }
 }
 
-// A refusal as an answer.
-pub fn refused(why: Refusal) -> usize
-    ensures { suc result ≡ number_of why }
-{
-    errors::number(why) as usize - 1
-}
-
-fn simplified(a: &[u64], which: Simplification, m: u8, out: &mut [u64], keys: &mut [u64]) -> usize
+fn simplified(
+    a: &[u64],
+    which: Simplification,
+    m: u8,
+    out: &mut [u64],
+    keys: &mut [u64],
+) -> Result<Outcome, Refusal>
     requires { (length a.now ≡ length keys.old) × (length a.now ≤ max_entries) }
     ensures { told_left result out.new ≡ few_of (Simplified which) m a.now [] out.old }
 {
     if !quadtree::keys(a, keys, sorted_by(which)) {
-        return refused(Refusal::NoTile);
+        return Err(Refusal::NoTile);
     }
     let n = a.len();
     if out.len() < n {
-        return refused(Refusal::Memory);
+        return Err(Refusal::Memory);
     }
-    FIRST_VALUE + write_simplified(keys, which, m, &mut out[..n])
+    Ok(write_simplified(keys, which, m, &mut out[..n]))
 }
 
 // The number of its tiles that a list is sorted by.
@@ -91,12 +96,11 @@ fn sorted_by(which: Simplification) -> Key
 {
     match which {
         Simplification::Merge => Key::Morton,
-        Simplification::SimplifyV1 => Key::Location,
-        Simplification::Simplify => Key::Location,
+        Simplification::SimplifyV1 | Simplification::Simplify => Key::Location,
     }
 }
 
-fn write_simplified(keys: &mut [u64], which: Simplification, m: u8, out: &mut [u64]) -> usize
+fn write_simplified(keys: &mut [u64], which: Simplification, m: u8, out: &mut [u64]) -> Outcome
     requires tile_numbers { TileNumbers (sort_key (sorted_by which)) keys.old × (length keys.old ≡ length out.old) }
     requires keys_len_bound { length keys.old ≤ max_entries }
     ensures { Simplifies which m keys.old out.new result }
@@ -104,22 +108,34 @@ fn write_simplified(keys: &mut [u64], which: Simplification, m: u8, out: &mut [u
     match which {
         Simplification::Merge => {
             let joined = families::merged(keys, out, m);
-            2 * joined.count + joined.changed as usize
+            Outcome {
+                count: joined.count,
+                yes: joined.changed,
+            }
         }
-        Simplification::SimplifyV1 => ancestors::simplified_v1(keys, out, m),
-        Simplification::Simplify => settle::simplified(keys, out, m),
+        Simplification::SimplifyV1 => Outcome {
+            count: ancestors::simplified_v1(keys, out, m),
+            yes: false,
+        },
+        Simplification::Simplify => Outcome {
+            count: settle::simplified(keys, out, m),
+            yes: false,
+        },
     }
 }
 
 // Whether the list is settled.
-fn tested(a: &[u64], keys: &mut [u64], spare: &mut [u64]) -> usize
+fn tested(a: &[u64], keys: &mut [u64], spare: &mut [u64]) -> Result<Outcome, Refusal>
     requires { length a.now ≡ length keys.old }
     ensures { told_left result [] ≡ few_of Tested 0 a.now [] [] }
 {
     if !quadtree::keys(a, keys, Key::Location) {
-        return refused(Refusal::NoTile);
+        return Err(Refusal::NoTile);
     }
-    FIRST_VALUE + settled::settled(a, keys, spare) as usize
+    Ok(Outcome {
+        count: 0,
+        yes: settled::settled(a, keys, spare),
+    })
 }
 
 fn overlaid(
@@ -129,34 +145,34 @@ fn overlaid(
     out: &mut [u64],
     keys: &mut [u64],
     spare: &mut [u64],
-) -> usize
+) -> Result<Outcome, Refusal>
     requires { InScratch a.now b.now (length keys.old) }
     ensures { told_left result out.new ≡ few_of (Overlaid which) 0 a.now b.now out.old }
 {
     let n = a.len();
     let both = n + b.len();
-    let number = located(a, b, &mut keys[..both], spare);
-    if number > 0 {
-        return number - 1;
-    }
+    located(a, b, &mut keys[..both], spare)?;
     if out.len() < places(which, &keys[..both], n, out.len()) {
-        return refused(Refusal::Memory);
+        return Err(Refusal::Memory);
     }
-    FIRST_VALUE + write_overlay(which, keys, n, both, out)
+    Ok(Outcome {
+        count: write_overlay(which, keys, n, both, out),
+        yes: false,
+    })
 }
 
-// The locations of both lists' tiles, each list's in order, and 0; or the number of the refusal of the two.
-fn located(a: &[u64], b: &[u64], keys: &mut [u64], spare: &mut [u64]) -> usize
+// The locations of both lists' tiles, each list's in order, or the refusal of the two.
+fn located(a: &[u64], b: &[u64], keys: &mut [u64], spare: &mut [u64]) -> Result<(), Refusal>
     requires { length a.now + length b.now ≡ length keys.old }
-    ensures { Located a.now b.now keys.new result }
+    ensures { Located a.now b.now keys.new (check_number result) }
 {
     if !keyed(a, b, keys) {
-        return errors::number(Refusal::NoTile) as usize;
+        return Err(Refusal::NoTile);
     }
     if !both_settled(a, b, keys, spare) {
-        return errors::number(Refusal::NotSettled) as usize;
+        return Err(Refusal::NotSettled);
     }
-    0
+    Ok(())
 }
 
 // The locations of both lists' tiles, one list's behind the other's, or that a number of the two is no tile's.
@@ -189,8 +205,7 @@ fn places(which: Overlay, locations: &[u64], n: usize, room: usize) -> usize
     ensures { ltb room result ≡ ltb room (overlay_places which (take n locations.now) (drop n locations.now)) }
 {
     match which {
-        Overlay::Union => locations.len(),
-        Overlay::Common => locations.len(),
+        Overlay::Union | Overlay::Common => locations.len(),
         Overlay::Difference => overlay::left_places(locations, n, room),
     }
 }

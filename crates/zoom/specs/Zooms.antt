@@ -1,13 +1,13 @@
 -- Document 01, "Zoom set": what a set and a list of zooms are, and what each call answers.
-use Rattle.std.specs.Prelude.{Bool, cond, ◌&&◌, List, ℕ, suc, ◌-◌, ◌^◌, leb, ltb, length}
+use Rattle.errors.specs.declared.Refusal.{Refusal}
+use Rattle.std.specs.Prelude.{Bool, cond, ◌&&◌, List, ℕ, suc, ◌-◌, ◌^◌, leb, ltb, length, Result, Ok, Err}
 use Rattle.std.specs.Int.Bits.{bit_and}
 use Rattle.constants.specs.Limits.{max_zoom, max_entries}
 use Rattle.errors.specs.Answer.{Answer, answer, ◌when◌, ◌else◌}
 use Rattle.errors.specs.Cases.{refused_as}
 use Rattle.zoom_bits.specs.Bits.{last_zoom, turn_bit, has_bit, those, set_of, between, down_from, zooms_in, any_deeper, set_of_zooms}
 use Rattle.zoom_ranges.specs.declared.ZoomRange.{ZoomRange}
-use Rattle.zoom.specs.declared.ZoomSetAnswer.{ZoomSetAnswer}
-use Rattle.zoom.specs.declared.ZoomSetAnswer.TheVariants.{Set, Refused}
+use Rattle.zoom.specs.declared.ZoomSet.{ZoomSet}
 
 -- how many columns or rows a zoom has, less one
 abbrev pub max_xY : ℕ → Answer ℕ
@@ -56,6 +56,6 @@ abbrev pub range_set : ZoomRange → Answer ℕ
 range_set r = answer (1 when (leb r.min r.max && ltb last_zoom r.max)) 0 (set_of (between r.min r.max) (suc last_zoom))
 
 -- an answer that is a set, as document 01's number and value
-abbrev pub zoom_set_case : ZoomSetAnswer → Answer ℕ
-zoom_set_case (Set s) = record { number = 0; value = s.0 }
-zoom_set_case (Refused why) = refused_as why 0
+abbrev pub zoom_set_case : Result ZoomSet Refusal → Answer ℕ
+zoom_set_case (Ok s) = record { number = 0; value = s.0 }
+zoom_set_case (Err why) = refused_as why 0

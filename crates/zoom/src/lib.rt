@@ -4,39 +4,35 @@
 ghost use Rattle.std.specs.Prelude.{◌≡◌, suc, ◌-◌, ◌^◌};
 ghost use Rattle.std.specs.Int.Bits.{bit_and};
 ghost use Rattle.errors.specs.Answer.{written};
-ghost use Rattle.errors.specs.Cases.{check_number, u32_case, left};
+ghost use Rattle.errors.specs.Cases.{check_number, number_case, left};
 ghost use Rattle.zoom_bits.specs.Bits.{last_zoom};
 ghost use Rattle.zoom_ranges.specs.Ranges.{left_two, ranges_of};
 ghost use Rattle.zoom.specs.Zooms.{max_xY, zooms_of, zooms_of_rev, zooms_refusal, zvec_set, zvec_set_rev};
 ghost use Rattle.zoom.specs.Zooms.{zoom_bit, zoom_bit_rev, and_zoom, range_set, zoom_set_case};
 
 use constants::{MAX_ENTRIES, MAX_ZOOM};
-use errors::{Check, Count, Refusal, U32Answer};
+use errors::Refusal;
+use std::ops::BitAnd;
 use zoom_bits::{LAST_ZOOM, TURN_BIT};
 use zoom_ranges::ZoomRange;
 
-#[derive(Clone, Copy)]
+// Bit i is zoom i; bit 31 turns the set round where `zset2zvec` reads it.
+#[derive(Clone, Copy, Debug, PartialEq, Eq)]
 pub struct ZoomSet(u32);
 
-// What a call that gives a set of zooms answers.
-#[derive(Clone, Copy)]
-pub enum ZoomSetAnswer {
-    Set(ZoomSet),
-    Refused(Refusal),
-}
-
 // The last column, and the last row, of a zoom.
-pub fn zoom_max_xy(zoom: u8) -> U32Answer
-    ensures { u32_case result ≡ max_xY zoom }
+#[tactic(auto, unfolding(constants::specs::Limits::max_zoom))]
+pub fn zoom_max_xy(zoom: u8) -> Result<u32, Refusal>
+    ensures { number_case result ≡ max_xY zoom }
 {
     if zoom > MAX_ZOOM {
-        return U32Answer::Refused(Refusal::Zoom);
+        return Err(Refusal::Zoom);
     }
-    U32Answer::Number(bits::pow2(zoom) - 1)
+    Ok(bits::pow2(zoom) - 1)
 }
 
 // The zooms of a set, which bit 31 turns round.
-pub fn zset2zvec(zset: u32, out: &mut [u8]) -> Count
+pub fn zset2zvec(zset: u32, out: &mut [u8]) -> Result<usize, Refusal>
     ensures { left result out.new ≡ written 0 (zooms_of zset) out.old }
 {
     if zoom_bits::has(zset, TURN_BIT) {
@@ -47,53 +43,52 @@ pub fn zset2zvec(zset: u32, out: &mut [u8]) -> Count
 }
 
 // The zooms of a set that is turned round whatever its bit 31 says.
-pub fn zset2zvec_rev(zset: u32, out: &mut [u8]) -> Count
+#[tactic(auto, using(zoom_bits::specs::Passing::those_of_set))]
+pub fn zset2zvec_rev(zset: u32, out: &mut [u8]) -> Result<usize, Refusal>
     ensures { left result out.new ≡ written 0 (zooms_of_rev zset) out.old }
 {
     zoom_bits::zooms_into(zoom_bits::reversed(zset, LAST_ZOOM), out)
 }
 
 // The set of the listed zooms.
-pub fn zvec2zset(zvec: &[u8]) -> U32Answer
-    ensures { u32_case result ≡ zvec_set zvec.now }
+pub fn zvec2zset(zvec: &[u8]) -> Result<u32, Refusal>
+    ensures { number_case result ≡ zvec_set zvec.now }
 {
-    match check_zooms(zvec) {
-        Check::Fine => U32Answer::Number(zoom_bits::union(zvec)),
-        Check::Refused(why) => U32Answer::Refused(why),
-    }
+    check_zooms(zvec)?;
+    Ok(zoom_bits::union(zvec))
 }
 
 // The number of the listed zooms whose bit 31 - i is zoom i.
-pub fn zvec2zset_rev(zvec: &[u8]) -> U32Answer
-    ensures { u32_case result ≡ zvec_set_rev zvec.now }
+#[tactic(auto, using(crate::specs::Lists::set_turned))]
+pub fn zvec2zset_rev(zvec: &[u8]) -> Result<u32, Refusal>
+    ensures { number_case result ≡ zvec_set_rev zvec.now }
 {
-    match check_zooms(zvec) {
-        Check::Fine => U32Answer::Number(zoom_bits::reversed(zoom_bits::union(zvec), TURN_BIT)),
-        Check::Refused(why) => U32Answer::Refused(why),
-    }
+    check_zooms(zvec)?;
+    Ok(zoom_bits::reversed(zoom_bits::union(zvec), TURN_BIT))
 }
 
 // The number of a single zoom beside the lists of `zvec2zset_rev`.
-pub fn zoom_bit_rev(zoom: u8) -> U32Answer
-    ensures { u32_case result ≡ zoom_bit_rev zoom }
+pub fn zoom_bit_rev(zoom: u8) -> Result<u32, Refusal>
+    ensures { number_case result ≡ zoom_bit_rev zoom }
 {
     if zoom > LAST_ZOOM {
-        return U32Answer::Refused(Refusal::Zoom);
+        return Err(Refusal::Zoom);
     }
-    U32Answer::Number(bits::pow2(TURN_BIT - zoom))
+    Ok(bits::pow2(TURN_BIT - zoom))
 }
 
 // The set of all zooms of a range, which is empty where the lowest is above the highest.
-pub fn zoom_set(range: ZoomRange) -> ZoomSetAnswer
+#[tactic(auto, using(zoom_bits::specs::Sets::set_of_empty_span))]
+pub fn zoom_set(range: ZoomRange) -> Result<ZoomSet, Refusal>
     ensures { zoom_set_case result ≡ range_set range }
 {
     if range.max < range.min {
-        return ZoomSetAnswer::Set(ZoomSet(0));
+        return Ok(ZoomSet(0));
     }
     if range.max > LAST_ZOOM {
-        return ZoomSetAnswer::Refused(Refusal::Zoom);
+        return Err(Refusal::Zoom);
     }
-    ZoomSetAnswer::Set(ZoomSet(zoom_bits::span(range.min, range.max)))
+    Ok(ZoomSet(zoom_bits::span(range.min, range.max)))
 }
 
 impl ZoomSet {
@@ -112,20 +107,20 @@ impl ZoomSet {
     }
 
     // The set of the listed zooms.
-    pub fn from_zooms(zooms: &[u8]) -> ZoomSetAnswer
+    pub fn from_zooms(zooms: &[u8]) -> Result<ZoomSet, Refusal>
         ensures { zoom_set_case result ≡ zvec_set zooms.now }
     {
-        as_set(zvec2zset(zooms))
+        zvec2zset(zooms).map(ZoomSet)
     }
 
     // The set of one zoom.
-    pub fn from_zoom(zoom: u8) -> ZoomSetAnswer
+    pub fn from_zoom(zoom: u8) -> Result<ZoomSet, Refusal>
         ensures { zoom_set_case result ≡ zoom_bit zoom }
     {
         if zoom > LAST_ZOOM {
-            return ZoomSetAnswer::Refused(Refusal::Zoom);
+            return Err(Refusal::Zoom);
         }
-        ZoomSetAnswer::Set(ZoomSet(bits::pow2(zoom)))
+        Ok(ZoomSet(bits::pow2(zoom)))
     }
 
     // The set of all zooms, 0 to 30.
@@ -136,14 +131,14 @@ impl ZoomSet {
     }
 
     // The zooms of the set, rising.
-    pub fn to_zooms(self, out: &mut [u8]) -> Count
+    pub fn to_zooms(self, out: &mut [u8]) -> Result<usize, Refusal>
         ensures { left result out.new ≡ written 0 (zooms_of self.0) out.old }
     {
         zset2zvec(self.0, out)
     }
 
     // The maximal runs of the zooms of the set, whatever bit 31 is.
-    pub fn zoom_ranges(self, lows: &mut [u8], highs: &mut [u8]) -> Count
+    pub fn zoom_ranges(self, lows: &mut [u8], highs: &mut [u8]) -> Result<usize, Refusal>
         ensures { left_two result lows.new highs.new ≡ ranges_of self.0 lows.old highs.old }
     {
         zoom_ranges::zoom_ranges(self.0, lows, highs)
@@ -153,7 +148,7 @@ impl ZoomSet {
     pub fn and(self, other: ZoomSet) -> ZoomSet
         ensures { result.0 ≡ bit_and self.0 other.0 }
     {
-        ZoomSet(self.0 & other.0)
+        self & other
     }
 
     // The bits that the set and a number both have.
@@ -164,35 +159,37 @@ impl ZoomSet {
     }
 
     // The bit is that of `zoom_bit_rev` and not the zoom's own, as in the Rust.
-    pub fn and_zoom(self, zoom: u8) -> ZoomSetAnswer
+    pub fn and_zoom(self, zoom: u8) -> Result<ZoomSet, Refusal>
         ensures { zoom_set_case result ≡ and_zoom self.0 zoom }
     {
         if zoom > LAST_ZOOM {
-            return ZoomSetAnswer::Refused(Refusal::Zoom);
+            return Err(Refusal::Zoom);
         }
-        ZoomSetAnswer::Set(ZoomSet(self.0 & bits::pow2(TURN_BIT - zoom)))
+        Ok(ZoomSet(self.0 & bits::pow2(TURN_BIT - zoom)))
     }
 }
 
-fn as_set(answer: U32Answer) -> ZoomSetAnswer
-    ensures { zoom_set_case result ≡ u32_case answer }
-{
-    match answer {
-        U32Answer::Number(n) => ZoomSetAnswer::Set(ZoomSet(n)),
-        U32Answer::Refused(why) => ZoomSetAnswer::Refused(why),
+impl BitAnd for ZoomSet {
+    type Output = ZoomSet;
+
+    fn bitand(self, other: ZoomSet) -> ZoomSet
+        ensures { result.0 ≡ bit_and self.0 other.0 }
+    {
+        ZoomSet(self.0 & other.0)
     }
 }
 
-fn check_zooms(zvec: &[u8]) -> Check
+#[tactic(auto, unfolding(constants::specs::Limits::max_entries))]
+fn check_zooms(zvec: &[u8]) -> Result<(), Refusal>
     ensures { check_number result ≡ zooms_refusal zvec.now }
 {
     let deep = zoom_bits::any_deeper(zvec);
     let many = zvec.len() > MAX_ENTRIES;
     if deep {
-        return Check::Refused(Refusal::Zoom);
+        return Err(Refusal::Zoom);
     }
     if many {
-        return Check::Refused(Refusal::TooMany);
+        return Err(Refusal::TooMany);
     }
-    Check::Fine
+    Ok(())
 }

@@ -1,6 +1,7 @@
 -- Sets of zooms, and of other small numbers, as the bits of a number: which bits a number has, the numbers below a bound that pass a test,
 -- and the number with just these bits. Lists of zooms, and their sets.
 use Rattle.std.specs.Prelude.{Bool, false, cond, ◌&&◌, ◌||◌, List, [], ◌∷◌, ◌++◌, ℕ, zero, suc, ◌+◌, ◌-◌, ◌/◌, ◌%◌, ◌^◌, eqb, leb, ltb}
+use Rattle.std.specs.List.{list_any}
 
 -- the deepest zoom of a set or a list, which stays 30 whatever the deepest zoom of the map is
 abbrev pub last_zoom : ℕ
@@ -44,8 +45,7 @@ zooms_in (a ∷ l) z = eqb z a || zooms_in l z
 
 -- whether a zoom of the list is too deep
 unfoldable pub any_deeper : List ℕ → Bool
-any_deeper [] = false
-any_deeper (a ∷ l) = ltb last_zoom a || any_deeper l
+any_deeper zooms = list_any (λ z. ltb last_zoom z) zooms
 
 -- bit z is zoom z
 abbrev pub set_of_zooms : List ℕ → ℕ

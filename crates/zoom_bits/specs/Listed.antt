@@ -1,6 +1,6 @@
 -- Laws of zoom lists: a list's set one zoom after the other, and whether a zoom of the list is too deep.
-use Rattle.std.specs.Prelude.{◌≡◌, refl, Bool, true, false, ◌||◌, List, [], ◌∷◌, ◌++◌, ℕ, zero, suc, ◌^◌, ◌≤◌, ◌<◌, eqb, ltb, length, get_or, take, drop}
-use Rattle.std.proofs.Common.{sym, ap, ◌∙◌, arith, drop-cons, take-suc, ltb-false}
+use Rattle.std.specs.Prelude.{◌≡◌, refl, Bool, true, false, ◌||◌, List, [], ◌∷◌, ◌++◌, ℕ, zero, suc, ◌^◌, ◌≤◌, ◌<◌, eqb, ltb, length, get_or, take}
+use Rattle.std.proofs.Common.{sym, ap, ◌∙◌, arith, take-suc, ltb-false}
 use Rattle.std.proofs.Math.Bool.{or_assoc, or-false}
 use Rattle.std.specs.Int.Bits.{bit_or}
 use Rattle.zoom_bits.specs.Bits.{last_zoom, zooms_in, any_deeper, set_of_zooms}
@@ -24,11 +24,6 @@ unfolding any_deeper
 none_deeper [] i e h = absurd (omega arith)
 none_deeper (a ∷ l) zero e h = ltb-false last_zoom a (or_none (ltb last_zoom a) (any_deeper l) e).0
 none_deeper (a ∷ l) (suc i) e h = none_deeper l i (or_none (ltb last_zoom a) (any_deeper l) e).1 (omega arith)
-
--- what is left to look at from place i on
-pub deeper_at : (l : List ℕ) (i : ℕ) → i < length l → any_deeper (drop i l) ≡ ltb last_zoom (get_or l i 0) || any_deeper (drop (suc i) l)
-unfolding any_deeper
-deeper_at l i h = ap any_deeper (drop-cons l i 0 h)
 
 -- one listed zoom more
 pub set_of_next : (l : List ℕ) (i : ℕ) → any_deeper l ≡ false → i < length l

@@ -6,7 +6,7 @@ ghost use Rattle.errors.specs.Answer.{written};
 ghost use Rattle.errors.specs.Cases.{left};
 ghost use Rattle.zoom_bits.specs.Bits.{last_zoom, turn_bit, has_bit, those, set_of, between, down_from, any_deeper, set_of_zooms};
 
-use errors::{Count, Refusal};
+use errors::Refusal;
 
 // The deepest zoom of a set or a list. The map's own limit is another one.
 pub const LAST_ZOOM: u8 = 30;
@@ -15,6 +15,7 @@ pub const LAST_ZOOM: u8 = 30;
 pub const TURN_BIT: u8 = 31;
 
 // Whether a set has a bit.
+#[tactic(auto, unfolding(crate::specs::Bits::has_bit))]
 pub fn has(set: u32, bit: u8) -> bool
     requires { bit < 32 }
     ensures { result ≡ has_bit set bit }
@@ -27,13 +28,11 @@ pub fn reversed(set: u32, top: u8) -> u32
     requires { top ≤ turn_bit }
     ensures { result ≡ set_of (down_from top set) (suc top) }
 {
-    let mut r: u32 = 0;
-    let mut i: u8 = 0;
-    while i <= top {
+    let mut r = 0;
+    for i in 0..=top {
         if has(set, top - i) {
             r += bits::pow2(i);
         }
-        i += 1;
     }
     r
 }
@@ -47,6 +46,7 @@ pub fn span(low: u8, high: u8) -> u32
 }
 
 // How many zooms a set has.
+#[tactic(auto, using(crate::specs::Passing::count_bits))]
 pub fn count_zooms(set: u32) -> usize
     ensures { result ≡ length (those (has_bit set) (suc last_zoom)) }
 {
@@ -54,15 +54,15 @@ pub fn count_zooms(set: u32) -> usize
 }
 
 // The zooms of a set that is not turned round.
-pub fn zooms_into(set: u32, out: &mut [u8]) -> Count
+pub fn zooms_into(set: u32, out: &mut [u8]) -> Result<usize, Refusal>
     ensures { left result out.new ≡ written 0 (those (has_bit set) (suc last_zoom)) out.old }
 {
     let count = count_zooms(set);
     if out.len() < count {
-        return Count::Refused(Refusal::Memory);
+        return Err(Refusal::Memory);
     }
     fill(set, out);
-    Count::Counted(count)
+    Ok(count)
 }
 
 // The zooms whose bits a set has, in the front of the list.
@@ -71,29 +71,21 @@ pub fn fill(set: u32, out: &mut [u8])
     ensures { out.new ≡ those (has_bit set) (suc last_zoom)
         ++ drop (length (those (has_bit set) (suc last_zoom))) out.old }
 {
-    let mut k: usize = 0;
-    let mut z: u8 = 0;
-    while z <= LAST_ZOOM {
+    let mut k = 0;
+    for z in 0..=LAST_ZOOM {
         if has(set, z) {
             out[k] = z;
             k += 1;
         }
-        z += 1;
     }
 }
 
 // Whether a listed zoom is too deep for a set.
+#[tactic(auto, unfolding(crate::specs::Bits::any_deeper))]
 pub fn any_deeper(zvec: &[u8]) -> bool
     ensures { result ≡ any_deeper zvec.now }
 {
-    let mut i: usize = 0;
-    while i < zvec.len() {
-        if zvec[i] > LAST_ZOOM {
-            return true;
-        }
-        i += 1;
-    }
-    false
+    zvec.iter().any(|z| *z > LAST_ZOOM)
 }
 
 // The bits of the listed zooms.
@@ -101,11 +93,9 @@ pub fn union(zvec: &[u8]) -> u32
     requires { any_deeper zvec.now ≡ false }
     ensures { result ≡ set_of_zooms zvec.now }
 {
-    let mut set: u32 = 0;
-    let mut i: usize = 0;
-    while i < zvec.len() {
-        set |= bits::pow2(zvec[i]);
-        i += 1;
+    let mut set = 0;
+    for z in zvec {
+        set |= bits::pow2(*z);
     }
     set
 }

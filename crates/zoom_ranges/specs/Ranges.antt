@@ -6,11 +6,11 @@
 --   holds_zoom zset z          whether a set holds zoom z
 --   runs zset                 the maximal runs of its zooms; run_lows and run_highs are their ends
 --   ranges_of zset lows highs  what is answered, and what the two lent lists hold then
-use Rattle.std.specs.Prelude.{Bool, false, not, ◌&&◌, List, [], ◌++◌, map, ℕ, zero, suc, leb, length, drop}
+use Rattle.errors.specs.declared.Refusal.{Refusal}
+use Rattle.std.specs.Prelude.{Bool, false, not, ◌&&◌, List, [], ◌++◌, map, ℕ, zero, suc, leb, length, drop, Result}
 use Rattle.bits.specs.Tests.{all_of}
 use Rattle.errors.specs.Answer.{short, ◌else◌}
-use Rattle.errors.specs.Cases.{count_case}
-use Rattle.errors.specs.declared.Count.{Count}
+use Rattle.errors.specs.Cases.{number_case}
 use Rattle.zoom_bits.specs.Bits.{has_bit, those, last_zoom, from_to}
 use Rattle.zoom_ranges.specs.declared.ZoomRange.{ZoomRange}
 
@@ -57,8 +57,8 @@ pub record LentTwo : Type 0 where
   pub lows : List ℕ
   pub highs : List ℕ
 
-abbrev pub left_two : Count → List ℕ → List ℕ → LentTwo
-left_two r lows highs = record { number = (count_case r).number; value = (count_case r).value; lows = lows; highs = highs }
+abbrev pub left_two : Result ℕ Refusal → List ℕ → List ℕ → LentTwo
+left_two r lows highs = record { number = (number_case r).number; value = (number_case r).value; lows = lows; highs = highs }
 
 abbrev pub lent_two : ℕ → List ℕ → List ℕ → List ℕ → List ℕ → LentTwo
 lent_two zero a b lows highs = record { number = 0; value = length a; lows = a ++ drop (length a) lows; highs = b ++ drop (length b) highs }

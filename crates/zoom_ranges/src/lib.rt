@@ -6,10 +6,11 @@ ghost use Rattle.zoom_bits.specs.Bits.{last_zoom, set_of};
 ghost use Rattle.zoom_ranges.specs.Edges.{run_starts, run_ends};
 ghost use Rattle.zoom_ranges.specs.Ranges.{range_of, holds_zoom, left_two, ranges_of};
 
-use errors::{Count, Refusal};
+use errors::Refusal;
 use zoom_bits::LAST_ZOOM;
 
-#[derive(Clone, Copy)]
+// The zooms from min to max.
+#[derive(Clone, Copy, Debug, PartialEq, Eq)]
 pub struct ZoomRange {
     pub min: u8,
     pub max: u8,
@@ -17,20 +18,20 @@ pub struct ZoomRange {
 
 // The maximal runs of the zooms 0 to 30 of a set, rising, at most 16: the lowest zoom of each, and the highest. Bit 31 is no zoom, and
 // turns nothing round here.
-pub fn zoom_ranges(zset: u32, lows: &mut [u8], highs: &mut [u8]) -> Count
+pub fn zoom_ranges(zset: u32, lows: &mut [u8], highs: &mut [u8]) -> Result<usize, Refusal>
     ensures { left_two result lows.new highs.new ≡ ranges_of zset lows.old highs.old }
 {
     let starts = run_starts(zset);
     let count = zoom_bits::count_zooms(starts);
     if lows.len() < count {
-        return Count::Refused(Refusal::Memory);
+        return Err(Refusal::Memory);
     }
     if highs.len() < count {
-        return Count::Refused(Refusal::Memory);
+        return Err(Refusal::Memory);
     }
     zoom_bits::fill(starts, lows);
     zoom_bits::fill(run_ends(zset), highs);
-    Count::Counted(count)
+    Ok(count)
 }
 
 impl ZoomRange {
@@ -57,9 +58,11 @@ impl ZoomRange {
             max: LAST_ZOOM,
         }
     }
+}
 
+impl Default for ZoomRange {
     // The range from 0 to 30.
-    pub fn default() -> ZoomRange
+    fn default() -> ZoomRange
         ensures { result ≡ range_of 0 last_zoom }
     {
         ZoomRange {

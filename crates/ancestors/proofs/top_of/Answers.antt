@@ -1,5 +1,5 @@
 -- `top_of`: the tops passed end at or before k, and the one that is known to end behind it is still ahead.
-use Prim.Native.Nat.{◌-◌, ◌≤◌}
+use Prim.Native.Nat.{◌≤◌}
 use native.Mathlib.Omega.{arith}
 use Rattle.settle.specs.Middle.{location_at}
 use Rattle.quadtree.specs.Locations.{end_of, tiles}

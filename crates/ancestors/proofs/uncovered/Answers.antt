@@ -1,6 +1,6 @@
 -- `uncovered`: the outer loop is the walk, and the inner one tests the ancestors of one tile, from the root on.
 use mathlib.Core.Path.{refl, sym, ◌∙◌}
-use Prim.Native.Nat.{◌+◌, ◌-◌, ◌<◌}
+use Prim.Native.Nat.{◌-◌, ◌<◌}
 use native.Mathlib.Omega.{arith}
 use lib.ListN.{length, get_or}
 use Rattle.constants.specs.Limits.{max_zoom_small}
@@ -12,7 +12,7 @@ use Rattle.ancestors.proofs.uncovered.Goals as goal
 use Rattle.ancestors.proofs.uncovered.Goals.{After-slice_known-in-tiles-1}
 
 more : (c : After-slice_known-in-tiles-1) → c.tiles.i < length c.tiles.locations
-more c = c.tiles-test.true
+more c = omega (arith, c.tiles.invariant.long)
 
 location : (c : After-slice_known-in-tiles-1) → IsLocation (get_or c.tiles.locations c.tiles.i 0)
 location c = let s = c.requires in next_location s.tile_numbers.0 s.tile_numbers.1 s.tops c.tiles.invariant (more c)
@@ -20,9 +20,6 @@ location c = let s = c.requires in next_location s.tile_numbers.0 s.tile_numbers
 -- the front has room for one number more
 front : (c : After-slice_known-in-tiles-1) → c.tiles.count < length c.tiles.locations
 front c = omega (arith, c.tiles.invariant.order, more c)
-
-falls : (c : After-slice_known-in-tiles-1) → let n = length c.args.locations.now in n - (c.tiles.i + 1) < n - c.tiles.i
-falls c = omega (arith, c.tiles.invariant.long, more c)
 
 pub tiles-init : goal.tiles-init
 tiles-init c = walk_begun
@@ -53,9 +50,6 @@ loop-steps-init c = c.steps_to_test-steps.ensures
 pub ancestor-requires : goal.ancestor-requires
 ancestor-requires c = omega (arith, c.loop-steps.invariant.few, (location (goal.at.ancestor-requires c).After-slice_known-in-tiles-1).of_map.zoom, max_zoom_small)
 
-pub tiles-smaller-then-ancestor-highest : goal.tiles-smaller-then-ancestor-highest
-tiles-smaller-then-ancestor-highest c = falls (goal.at.tiles-smaller-then-ancestor-highest c).After-slice_known-in-tiles-1
-
 pub tiles-preserved-then-ancestor-highest : goal.tiles-preserved-then-ancestor-highest
 tiles-preserved-then-ancestor-highest c = let s = c.requires in
     let I = c.loop-steps in
@@ -63,9 +57,6 @@ tiles-preserved-then-ancestor-highest c = let s = c.requires in
     skipped s.tile_numbers.0 s.tile_numbers.1 s.tops c.tiles.invariant (more (goal.at.tiles-preserved-then-ancestor-highest c).After-slice_known-in-tiles-1) c.top_of-top.ensures
     c.morton-morton.ensures c.morton-highest.ensures refl
     (I.steps - 1) (omega (arith, deeper)) (omega (arith, deeper, I.invariant.few)) (sym c.ancestor.ensures ∙ c.if-ancestor-highest.true)
-
-pub loop-steps-smaller : goal.loop-steps-smaller
-loop-steps-smaller c = omega (arith, c.loop-steps-test.true)
 
 pub loop-steps-preserved : goal.loop-steps-preserved
 loop-steps-preserved c = tested_more c.loop-steps.invariant (omega (arith, c.loop-steps-test.true)) (λ e. c.if-ancestor-highest.false (c.ancestor.ensures ∙ e))
@@ -79,9 +70,6 @@ bounds-locations-count c = front (goal.at.bounds-locations-count c).After-slice_
 pub overflow_add-count : goal.overflow_add-count
 overflow_add-count c = omega (arith, front (goal.at.overflow_add-count c).After-slice_known-in-tiles-1)
 
-pub tiles-smaller : goal.tiles-smaller
-tiles-smaller c = falls (goal.at.tiles-smaller c).After-slice_known-in-tiles-1
-
 pub tiles-preserved : goal.tiles-preserved
 tiles-preserved c = let s = c.requires in
     let I = c.loop-steps in
@@ -92,4 +80,4 @@ pub shape_of-locations : goal.shape_of-locations
 shape_of-locations c = c.tiles.invariant.long
 
 pub returns : goal.returns
-returns c = ended c.requires.tile_numbers.0 c.tiles.invariant c.tiles-test.false
+returns c = ended c.requires.tile_numbers.0 c.tiles.invariant (omega (arith, c.tiles.invariant.long))

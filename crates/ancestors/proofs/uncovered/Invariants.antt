@@ -1,6 +1,4 @@
 -- `uncovered`: the outer loop is the walk, and the inner one tests the ancestors of one tile, from the root on.
-use Prim.Native.Nat.{◌-◌}
-use lib.ListN.{length}
 use Rattle.quadtree.specs.Numbers.{location_tile}
 use Rattle.ancestors.specs.Laws.{AncestorsTested}
 use Rattle.ancestors.specs.Walk.{Walk}
@@ -9,11 +7,5 @@ use Rattle.ancestors.proofs.uncovered.Given as goal
 abbrev pub invariant-loop-steps : goal.invariant-loop-steps
 invariant-loop-steps l = AncestorsTested l.morton l.highest (location_tile l.k).z l.steps
 
-abbrev pub decreases-loop-steps : goal.decreases-loop-steps
-decreases-loop-steps l = l.steps
-
 abbrev pub invariant-tiles : goal.invariant-tiles
 invariant-tiles l = Walk l.m l.initial.locations l.tops l.locations l.count l.top l.i
-
-abbrev pub decreases-tiles : goal.decreases-tiles
-decreases-tiles l = length l.initial.locations - l.i

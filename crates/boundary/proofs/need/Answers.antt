@@ -3,10 +3,6 @@ use native.Mathlib.Omega.{arith}
 use Rattle.constants.specs.Limits.{max_entries}
 use Rattle.boundary.proofs.need.Goals as goal
 
-pub overflow_add-result : goal.overflow_add-result
+pub overflow_add-n : goal.overflow_add-n
 unfolding max_entries
-overflow_add-result c = omega (arith, c.requires.0, c.requires.1)
-
-pub overflow_add-result-in-Simplified : goal.overflow_add-result-in-Simplified
-unfolding max_entries
-overflow_add-result-in-Simplified c = omega (arith, c.requires.0, c.requires.1)
+overflow_add-n c = omega (arith, c.requires.0, c.requires.1)

@@ -10,20 +10,20 @@ use Rattle.boundary.proofs.run.Goals as goal
 pub returns-then-a-gt-MAX_ENTRIES : goal.returns-then-a-gt-MAX_ENTRIES
 unfolding max_entries
 returns-then-a-gt-MAX_ENTRIES c = let a = c.args in
-    too_many a.work a.m c.refused.result a.a.now a.b.now a.out.now (length a.a.now) (inl refl) c.if-a-gt-MAX_ENTRIES.true c.refused.ensures
+    too_many a.work a.m a.a.now a.b.now a.out.now (length a.a.now) (inl refl) c.if-a-gt-MAX_ENTRIES.true
 
 pub returns-then-b-gt-MAX_ENTRIES : goal.returns-then-b-gt-MAX_ENTRIES
 unfolding max_entries
 returns-then-b-gt-MAX_ENTRIES c = let a = c.args in
-    too_many a.work a.m c.refused-then-b-gt-MAX_ENTRIES.result a.a.now a.b.now a.out.now (length a.b.now) (inr refl) c.if-b-gt-MAX_ENTRIES.true c.refused-then-b-gt-MAX_ENTRIES.ensures
+    too_many a.work a.m a.a.now a.b.now a.out.now (length a.b.now) (inr refl) c.if-b-gt-MAX_ENTRIES.true
 
 pub need-need-requires : goal.need-need-requires
 unfolding max_entries
 need-need-requires c = (omega (arith, c.if-a-gt-MAX_ENTRIES.false), omega (arith, c.if-b-gt-MAX_ENTRIES.false))
 
-pub tiny_scratch-requires : goal.tiny_scratch-requires
+pub in_scratch-requires-clause-fits : goal.in_scratch-requires-clause-fits
 unfolding max_entries
-tiny_scratch-requires c = record {
+in_scratch-requires-clause-fits c = record {
   first_few = omega (arith, c.if-a-gt-MAX_ENTRIES.false);
   second_few = omega (arith, c.if-b-gt-MAX_ENTRIES.false);
   room = omega (arith, c.need-need.ensures.0, c.if-need-le-TINY.true);

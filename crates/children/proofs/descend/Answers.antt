@@ -1,4 +1,6 @@
 -- `children::descend` meets its contract: the zooms are tested, then the tile, then the memory, and then the descendants are written.
+use Rattle.std.specs.Prelude.{Option, unwrap_or}
+use Rattle.std.proofs.lemmas.Grind.{common_steps}
 use mathlib.Core.Path.{◌≡◌, refl, sym, ap, ap₂, ◌∙◌}
 use mathlib.Core.List.{List, ◌++◌}
 use Prim.Native.Nat.{ℕ, ◌+◌, ◌-◌, ◌^◌, ◌≤◌}
@@ -9,78 +11,88 @@ use lib.Seq.{length-take-le}
 use borrow.Author.Tests.{lt-ltb, le-ltb}
 use Rattle.constants.specs.Limits.{max_zoom, max_zoom_small}
 use Rattle.errors.specs.Answer.{◌when◌, ◌else◌}
-use Rattle.errors.specs.Laws.{check_fine, check_refused}
+use Rattle.errors.specs.Laws.{check_fine}
 use Rattle.errors.specs.Memory.{written_refused, written_short, written_done}
 use Rattle.errors.specs.declared.Refusal.TheVariants.{Zoom}
-use Rattle.tile.specs.Option.{unwrap_or}
 use Rattle.tile.specs.OnMap.{tile_refusal, accepted_on_map}
 use Rattle.children.specs.Children.{family_of, descendants}
 use Rattle.ids.specs.Entry.{entries_of}
 use Rattle.children.specs.Family.{child_too_deep, children_length}
+use Rattle.children.specs.declared.Family.{Family}
 use Rattle.children.proofs.descend.Goals as goal
-use Rattle.children.proofs.descend.Goals.{After-places-n, Start}
+use Rattle.children.proofs.descend.Goals.{After-places-n}
 
-abbrev target : Start → ℕ
-target s = unwrap_or s.args.zoom (s.args.z + 1)
+-- the zoom that is asked for, and what is written
+abbrev target : Option ℕ → ℕ → ℕ
+target zoom z = unwrap_or zoom (z + 1)
 
-abbrev refusal : Start → ℕ
-refusal s = tile_refusal s.args.x s.args.y s.args.z
+abbrev items_at : Family → ℕ → ℕ → ℕ → ℕ → List ℕ
+items_at family x y z depth = entries_of (descendants (family_of family) depth x y z)
 
-abbrev items_at : Start → ℕ → List ℕ
-items_at s depth = entries_of (descendants (family_of s.args.turn) depth s.args.x s.args.y s.args.z)
-
-abbrev items : Start → List ℕ
-items s = items_at s (target s - s.args.z)
+abbrev items : Family → ℕ → ℕ → ℕ → Option ℕ → List ℕ
+items family x y z zoom = items_at family x y z (target zoom z - z)
 
 pub returns-then-z-gt-MAX_ZOOM : goal.returns-then-z-gt-MAX_ZOOM
 unfolding max_zoom
-returns-then-z-gt-MAX_ZOOM c = written_refused Zoom (items (goal.at.returns-then-z-gt-MAX_ZOOM c).Start) _ (sym (child_too_deep c.args.x c.args.y (target (goal.at.returns-then-z-gt-MAX_ZOOM c).Start) c.if-z-gt-MAX_ZOOM.true))
+returns-then-z-gt-MAX_ZOOM c = let a = c.args in
+    written_refused Zoom (items a.family a.x a.y a.z a.zoom) _ (sym (child_too_deep a.x a.y (target a.zoom a.z) c.if-z-gt-MAX_ZOOM.true))
 
 pub returns-then-target-gt-MAX_ZOOM : goal.returns-then-target-gt-MAX_ZOOM
 unfolding max_zoom
-returns-then-target-gt-MAX_ZOOM c = rw (lt-ltb max_zoom (target (goal.at.returns-then-target-gt-MAX_ZOOM c).Start) (rw c.unwrap_or-target.ensures at c.if-target-gt-MAX_ZOOM.true)) (written_refused Zoom (items (goal.at.returns-then-target-gt-MAX_ZOOM c).Start) _ refl)
+returns-then-target-gt-MAX_ZOOM c = let a = c.args in
+    rw (lt-ltb max_zoom (target a.zoom a.z) (rw c.unwrap_or-target.ensures at c.if-target-gt-MAX_ZOOM.true))
+    (written_refused Zoom (items a.family a.x a.y a.z a.zoom) _ refl)
 
-pub returns-in-Refused : goal.returns-in-Refused
+pub returns-in_err-check : goal.returns-in_err-check
 unfolding max_zoom
-returns-in-Refused c = let h = rw c.unwrap_or-target.ensures at c.if-target-gt-MAX_ZOOM.false in
-    rw (le-ltb max_zoom (target (goal.at.returns-in-Refused c).Start) h) (written_refused c.in-Refused.why (items (goal.at.returns-in-Refused c).Start) _ (check_refused c.in-Refused.is c.check.ensures))
+returns-in_err-check c = let a = c.args in
+    let h : target a.zoom a.z ≤ max_zoom = rw c.unwrap_or-target.ensures at c.if-target-gt-MAX_ZOOM.false in
+    rw (le-ltb _ _ h) (grind (arith, common_steps, written_refused))
 
 pub places-n-requires : goal.places-n-requires
 unfolding max_zoom
-places-n-requires c = omega (arith, c.steps-depth.ensures, max_zoom_small)
+places-n-requires c = omega (arith, c.saturating_sub-depth.ensures, max_zoom_small)
 
-abbrev start : After-places-n → Start
-start c = c.before.before.before.before.before.before.before.before.before
+-- past the tests nothing is refused, and the count is that of the items
+module _ (c : After-places-n) where
+  reached : target c.args.zoom c.args.z ≤ max_zoom
+  unfolding max_zoom
+  reached = rw c.unwrap_or-target.ensures at c.if-target-gt-MAX_ZOOM.false
 
-reached : (c : After-places-n) → target (start c) ≤ max_zoom
-unfolding max_zoom
-reached c = rw c.unwrap_or-target.ensures at c.if-target-gt-MAX_ZOOM.false
+  accepted : tile_refusal c.args.x c.args.y c.args.z ≡ 0
+  accepted = check_fine c.in_ok-check.was c.check.ensures
 
-accepted : (c : After-places-n) → refusal (start c) ≡ 0
-accepted c = check_fine c.in_default.is c.check.ensures
+  nothing_refused : (1 when ltb max_zoom (target c.args.zoom c.args.z) else tile_refusal c.args.x c.args.y c.args.z) ≡ 0
+  nothing_refused = rw (le-ltb _ _ reached) accepted
 
-nothing_refused : (c : After-places-n) → (1 when ltb max_zoom (target (start c)) else refusal (start c)) ≡ 0
-nothing_refused c = rw (le-ltb _ _ (reached c)) (accepted c)
+  depth_is : c.saturating_sub-depth.result ≡ target c.args.zoom c.args.z - c.args.z
+  depth_is = c.saturating_sub-depth.ensures ∙ ap (λ (n : ℕ). n - c.args.z) c.unwrap_or-target.ensures
 
-depth_is : (c : After-places-n) → c.steps-depth.result ≡ target (start c) - c.args.z
-depth_is c = c.steps-depth.ensures ∙ ap (λ (n : ℕ). n - c.args.z) c.unwrap_or-target.ensures
-
-count_is : (c : After-places-n) → c.places-n.result ≡ length (items (start c))
-count_is c =
-    let a = c.args in
-    c.places-n.ensures ∙ (ap (λ (n : ℕ). 4 ^ n) (depth_is c) ∙ sym (children_length a.turn (target (start c) - a.z) a.x a.y a.z))
+  count_is : c.places-n.result ≡ length (items c.args.family c.args.x c.args.y c.args.z c.args.zoom)
+  count_is =
+      let a = c.args in
+      c.places-n.ensures ∙ (ap (λ (n : ℕ). 4 ^ n) depth_is ∙ sym (children_length a.family (target a.zoom a.z - a.z) a.x a.y a.z))
 
 pub returns-then-out-n : goal.returns-then-out-n
-returns-then-out-n c = written_short (items (goal.at.returns-then-out-n c).Start) _ (nothing_refused (goal.at.returns-then-out-n c).After-places-n) (rw (← count_is (goal.at.returns-then-out-n c).After-places-n) c.if-out-n.true)
+returns-then-out-n c = let a = c.args in
+    let here = (goal.at.returns-then-out-n c).After-places-n in
+    written_short (items a.family a.x a.y a.z a.zoom) _ (nothing_refused here) (rw (← count_is here) c.if-out-n.true)
 
 pub slice_bounds-fill-end-2 : goal.slice_bounds-fill-end-2
 slice_bounds-fill-end-2 c = sym (length-take-le _ _ c.if-out-n.false)
 
 pub fill-requires : goal.fill-requires
-fill-requires c = let m = accepted_on_map _ _ _ (accepted (goal.at.fill-requires c).After-places-n) in
-    record { turn_bound = c.requires; on_map = m; depth_bound = omega (arith, depth_is (goal.at.fill-requires c).After-places-n, reached (goal.at.fill-requires c).After-places-n, m.zoom); out_len = length-take-le _ _ c.if-out-n.false ∙ c.places-n.ensures }
+fill-requires c = let here = (goal.at.fill-requires c).After-places-n in
+    let m = accepted_on_map _ _ _ (accepted here) in
+    record {
+      on_map = m;
+      depth_bound = omega (arith, depth_is here, reached here, m.zoom);
+      out_len = length-take-le _ _ c.if-out-n.false ∙ c.places-n.ensures;
+    }
 
 pub returns : goal.returns
-returns c = let e = count_is (goal.at.returns c).After-places-n in
-    written_done (items (goal.at.returns c).Start) _ _ (nothing_refused (goal.at.returns c).After-places-n) (rw (← e) c.if-out-n.false) e
-    (ap₂ ◌++◌ (c.fill.ensures ∙ ap (items_at (goal.at.returns c).Start) (depth_is (goal.at.returns c).After-places-n)) (ap (λ (n : ℕ). drop n c.args.out.now) e))
+returns c = let a = c.args in
+    let here = (goal.at.returns c).After-places-n in
+    let e = count_is here in
+    written_done (items a.family a.x a.y a.z a.zoom) _ _ (nothing_refused here) (rw (← e) c.if-out-n.false) e
+    (ap₂ ◌++◌ (c.fill.ensures ∙ ap (items_at a.family a.x a.y a.z) (depth_is here)) (ap (λ (n : ℕ). drop n c.args.out.now) e))

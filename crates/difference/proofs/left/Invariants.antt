@@ -1,11 +1,9 @@
 -- `left`: after i tiles the walk stands where the next begins.
-use Prim.Native.Nat.{◌-◌}
-use lib.ListN.{length}
+use Rattle.std.specs.Prelude.{◌≡◌}
 use Rattle.difference.specs.Middle.{WalkedTo}
 use Rattle.difference.proofs.left.Given as goal
 
-abbrev pub invariant-loop-i : goal.invariant-loop-i
-invariant-loop-i l = WalkedTo l.kept l.gone l.initial.out l.out l.i l.at.next l.at.count
-
-abbrev pub decreases-loop-i : goal.decreases-loop-i
-decreases-loop-i l = length l.kept - l.i
+abbrev pub invariant-loop-k : goal.invariant-loop-k
+invariant-loop-k l = let s = l.initial.walk in
+    WalkedTo l.kept l.gone s.out.now l.walk.out.now l.k-index l.walk.next l.walk.count
+    × (l.walk.gone ≡ s.gone) × (l.walk.out.ghost_name ≡ s.out.ghost_name)

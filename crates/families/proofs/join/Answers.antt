@@ -6,13 +6,13 @@ use Prim.Native.Nat.{ℕ, ◌+◌, ◌-◌, ◌/◌, ◌≤◌, ◌<◌}
 use native.Mathlib.Omega.{arith}
 use native.Mathlib.Numerals.{add-one}
 use lib.ListN.{length, take, drop, get_or, set, length-set, length-drop, drop_of_length-le}
-use lib.Seq.{take-suc-set, drop-set-lt, get_or-set_other}
+use lib.Seq.{take_all, get_or-drop, take-suc-set, drop-set-lt, get_or-set_other}
 use Rattle.quadtree.specs.Lists.{number_at}
 use Rattle.families.specs.Join.{four_from, join_after, join_of}
 use Rattle.families.specs.Laws.{four_true, join_alone, join_family}
 use Rattle.families.proofs.join.Invariants.{Mid}
 use Rattle.families.proofs.join.Goals as goal
-use Rattle.families.proofs.join.Goals.{else-family_at, then-family_at}
+use Rattle.families.proofs.join.Goals.{else-starts_with_family, then-starts_with_family}
 
 -- a number is written behind those that stand at the front, and the numbers up to j are done
 moved : (from : ℕ) (s₀ s : List ℕ) (count i j v : ℕ) → Mid from s₀ s count i → i < length s → i < j → j ≤ length s
@@ -40,33 +40,37 @@ ended : (from : ℕ) (s₀ s : List ℕ) (count i : ℕ) → Mid from s₀ s cou
 unfolding join_after
 ended from s₀ s count i M h = rw (drop_of_length-le s h, append-nil (take count s)) at M.done
 
+whole : (l : List ℕ) (i : ℕ) → take (length l - i) (drop i l) ≡ drop i l
+whole l i = take_all (length l - i) (drop i l) (omega (arith, length-drop i l))
+
 pub loop-i-init : goal.loop-i-init
 loop-i-init c = record { order = omega arith; within = omega arith; long = refl; done = refl; rest = λ j h. refl }
 
-pub family_at-requires : goal.family_at-requires
-family_at-requires c = let L = c.loop-i in
+pub starts_with_family-requires : goal.starts_with_family-requires
+starts_with_family-requires c = let L = c.loop-i in
     let lt = c.loop-i-test.true in
-    (lt, rw (L.invariant.rest L.i (omega arith)) (number_at c.args.codes.now L.i c.requires.0 (omega (arith, L.invariant.long))), c.requires.1)
+    let zero : L.i + 0 ≡ L.i = omega arith in
+    (rw (whole L.codes L.i, get_or-drop L.i L.codes 0 0, zero) (rw (L.invariant.rest L.i (omega arith)) (number_at c.args.codes.now L.i c.requires.0 (omega (arith, L.invariant.long)))), c.requires.1)
 
 pub loop-i-smaller : goal.loop-i-smaller
 loop-i-smaller c = let L = c.loop-i in
     let lt = c.loop-i-test.true in
     let M = L.invariant in
-    elim c.if-family_at.branch [
-      | then-family_at w ↦ let e = w.i-is in omega (arith, lt, M.long)
-      | else-family_at w ↦ let e = w.i-is in omega (arith, lt, M.long)
+    elim c.if-starts_with_family.branch [
+      | then-starts_with_family w ↦ let e = w.i-is in omega (arith, lt, M.long)
+      | else-starts_with_family w ↦ let e = w.i-is in omega (arith, lt, M.long)
     ]
 
 pub loop-i-preserved : goal.loop-i-preserved
 loop-i-preserved c = let L = c.loop-i in
     let lt = c.loop-i-test.true in
-    let f = c.family_at.ensures in
+    let f = rw (whole L.codes L.i) at c.starts_with_family.ensures in
     let s₀ : List ℕ = c.args.codes.now in
     let one = joined c.args.from s₀ L.codes L.count L.i L.invariant lt in
     let two = kept c.args.from s₀ L.codes L.count L.i L.invariant lt in
-    elim c.if-family_at.branch [
-      | then-family_at w ↦ rw (w.codes-is, w.i-is) (one (sym f ∙ w.if-family_at.true))
-      | else-family_at w ↦ rw (w.codes-is, w.i-is) (two (sym f ∙ w.if-family_at.false))
+    elim c.if-starts_with_family.branch [
+      | then-starts_with_family w ↦ rw (w.codes-is, w.i-is) (one (sym f ∙ w.if-starts_with_family.true))
+      | else-starts_with_family w ↦ rw (w.codes-is, w.i-is) (two (sym f ∙ w.if-starts_with_family.false))
     ]
 
 pub returns : goal.returns

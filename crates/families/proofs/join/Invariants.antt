@@ -1,7 +1,7 @@
 -- `join`: what stands at the front, and what is left of the numbers from i on, are what the pass leaves.
 use mathlib.Core.Path.{◌≡◌}
 use mathlib.Core.List.{List, ◌++◌}
-use Prim.Native.Nat.{ℕ, ◌+◌, ◌-◌, ◌≤◌}
+use Prim.Native.Nat.{ℕ, ◌-◌, ◌≤◌}
 use lib.ListN.{length, take, drop, get_or}
 use Rattle.families.specs.Join.{join_of}
 use Rattle.families.proofs.join.Given as goal

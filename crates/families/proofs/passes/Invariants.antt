@@ -4,8 +4,5 @@ use lib.ListN.{length, take}
 use Rattle.families.specs.Turns.{Turn}
 use Rattle.families.proofs.passes.Given as goal
 
-abbrev pub invariant-loop-zooms : goal.invariant-loop-zooms
-invariant-loop-zooms l = Turn l.m (take l.count l.initial.codes) l.codes l.left l.zooms × (length l.codes ≡ length l.initial.codes) × (length l.scratch ≡ length l.initial.scratch)
-
-abbrev pub decreases-loop-zooms : goal.decreases-loop-zooms
-decreases-loop-zooms l = l.zooms
+abbrev pub invariant-loop : goal.invariant-loop
+invariant-loop l = Turn l.m (take l.count l.initial.codes) l.codes l.left l.counter × (length l.codes ≡ length l.initial.codes) × (length l.scratch ≡ length l.initial.scratch)

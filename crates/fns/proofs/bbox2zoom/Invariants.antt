@@ -1,7 +1,7 @@
 -- `fns::bbox2zoom` meets its contract: the zoom is the first one from z on.
 use mathlib.Core.Path.{◌≡◌}
 use mathlib.Core.Bool.{Bool, ◌||◌}
-use Prim.Native.Nat.{ℕ, ◌-◌, ◌≤◌}
+use Prim.Native.Nat.{ℕ, ◌-◌}
 use Rattle.fns.specs.Fns.{differ, first_zoom, bbox2zoom_of}
 use Rattle.fns.proofs.bbox2zoom.Given as goal
 
@@ -10,7 +10,4 @@ abbrev pub parts : ℕ → ℕ → ℕ → ℕ → ℕ → Bool
 parts west south east north z = differ west east (31 - z) || differ south north (31 - z)
 
 abbrev pub invariant-loop-z : goal.invariant-loop-z
-invariant-loop-z l = (l.z ≤ 28) × (bbox2zoom_of l.west l.south l.east l.north ≡ first_zoom (parts l.west l.south l.east l.north) l.z (28 - l.z))
-
-abbrev pub decreases-loop-z : goal.decreases-loop-z
-decreases-loop-z l = 28 - l.z
+invariant-loop-z l = bbox2zoom_of l.west l.south l.east l.north ≡ first_zoom (parts l.west l.south l.east l.north) l.z (28 - l.z)

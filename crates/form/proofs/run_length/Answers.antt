@@ -1,31 +1,14 @@
--- `run_length` meets its contract: the run from the first place on is what was passed and the run from i on.
-use mathlib.Core.Path.{sym, ◌∙◌}
-use native.Mathlib.Omega.{arith}
-use Rattle.form.specs.Steps.{run_more, run_stops, run_past}
+-- `run_length` meets its contract: a run ends at the first byte that is no key's.
+use Rattle.std.proofs.Common.{rules, tests, not}
+use Rattle.std.proofs.lemmas.Iterator.{YieldsList-from_slice}
+use Rattle.std.proofs.lemmas.Iterator.Search.{position_from_yields_List}
+use Rattle.form.specs.Form.{is_key_byte}
+use Rattle.form.specs.Steps.{run_reached}
 use Rattle.form.proofs.run_length.Goals as goal
 
-pub loop-i-init : goal.loop-i-init
-loop-i-init c = (omega arith, omega arith)
-
-pub overflow_sub-result : goal.overflow_sub-result
-overflow_sub-result c = c.loop-i.invariant.0
-
-pub returns-then-not-is_key_byte : goal.returns-then-not-is_key_byte
-returns-then-not-is_key_byte c =
-    omega (
-      arith,
-      c.loop-i.invariant.1,
-      run_stops c.args.bytes.now c.loop-i.i c.loop-i-test.true
-          (sym c.is_key_byte.ensures ∙ c.if-not-is_key_byte.true),
-    )
-
-pub loop-i-preserved : goal.loop-i-preserved
-loop-i-preserved c =
-    let m = run_more c.args.bytes.now c.loop-i.i c.loop-i-test.true
-    (sym c.is_key_byte.ensures ∙ c.if-not-is_key_byte.false) in (omega (arith, c.loop-i.invariant.0), omega (arith, c.loop-i.invariant, m))
-
-pub overflow_sub-result-2 : goal.overflow_sub-result-2
-overflow_sub-result-2 c = c.loop-i.invariant.0
-
 pub returns : goal.returns
-returns c = omega (arith, c.loop-i.invariant.1, run_past c.args.bytes.now c.loop-i.i c.loop-i-test.false)
+returns c =
+    run_reached c.args.bytes.now c.position.result c.unwrap_or.result
+    (position_from_yields_List (λ b. not (is_key_byte b)) _ _ c.position.result c.position.ensures.ran (YieldsList-from_slice c.args.bytes.now cc)
+    (λ x b q k. search (rules, tests)))
+    c.unwrap_or.ensures

@@ -1,8 +1,6 @@
 -- `value` and `pair` call each other: the two forms of a pair are shorter than the pair, and a pair is shorter than its form.
 use lib.ListN.{length}
-use Rattle.errors.specs.declared.Count.TheVariants as count
-use Rattle.form.specs.declared.Word.TheVariants as word
-use Prim.Native.Nat.{◌+◌, ◌-◌, ◌*◌}
+use Prim.Native.Nat.{◌+◌, ◌*◌}
 use Rattle.form_area.proofs.+pair_value.Given as goal
 
 abbrev pub decreases-value : goal.decreases-value

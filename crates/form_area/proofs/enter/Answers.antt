@@ -1,74 +1,59 @@
 -- `enter` meets its contract: the keys are entered one by one, from the left.
-use mathlib.Core.Path.{refl, ◌∙◌}
-use Prim.Native.Nat.{◌+◌, ◌-◌, ◌<◌}
+use Rattle.std.specs.Prelude.{Ok, Err, Some}
+use mathlib.Core.Path.{◌≡◌, refl, sym, ap, subst, ◌∙◌}
+use Prim.Native.Nat.{◌+◌, ◌<◌}
 use native.Mathlib.Omega.{arith}
-use lib.ListN.{length}
+use lib.ListN.{length, drop}
+use Rattle.std.proofs.lemmas.Result.{err_from_is_err_and}
+use Rattle.form.specs.Words.{key_length}
 use Rattle.form_area.specs.Entries.{none_entered, coming, coming_length, key_begun, key_refused, all_entered, whichever}
-use Rattle.errors.specs.declared.Count.TheVariants as count
+use Rattle.form_area.specs.Promised.{AllEntered}
 use Rattle.form_area.proofs.enter.Goals as goal
-use Rattle.form_area.proofs.enter.Goals.{After-key_length}
+use Rattle.form_area.proofs.enter.Goals.{In-Some}
 
-pub loop-at-init : goal.loop-at-init
-loop-at-init c = ((c.requires.0, c.requires.1, none_entered c.args.entries.now c.args.body.now c.requires.0 c.requires.1), refl)
+pub loop-length-init : goal.loop-length-init
+loop-length-init c = ((c.requires.0, c.requires.1, none_entered c.args.entries.now c.args.body.now c.requires.0 c.requires.1), refl)
 
-pub overflow_add-at : goal.overflow_add-at
-overflow_add-at c = omega (arith, c.loop-at.invariant.0.2.within, c.well_formed)
+told : (c : In-Some) → key_length (drop c.loop-length.at c.args.body.now) ≡ Some c.in-Some.length
+told c = sym c.key_length.ensures ∙ c.in-Some.is
 
-next : (c : After-key_length)
-    → (0 < c.key_length.result) × (c.loop-at.at + c.key_length.result < length c.args.body.now)
+next : (c : In-Some) → (0 < c.in-Some.length) × (c.loop-length.at + c.in-Some.length < length c.args.body.now)
 next c =
-    let k = coming c.loop-at.at c.loop-at.n c.loop-at.entries c.args.body.now c.loop-at.invariant.0 c.loop-at-test.true in
-    let l = coming_length c.loop-at.at c.loop-at.n c.loop-at.entries c.args.body.now c.loop-at.invariant.0
-    c.loop-at-test.true c.key_length.result c.key_length.ensures in
+    let L = c.loop-length in
+    let k = coming L.at L.n L.entries c.args.body.now L.invariant.0 c.in-Some.length (told c) in
+    let l = coming_length L.at L.n L.entries c.args.body.now L.invariant.0 c.in-Some.length (told c) in
     (omega (arith, l), omega (arith, l, k.within))
 
 pub overflow_add-next : goal.overflow_add-next
-overflow_add-next c = let k = next (goal.at.overflow_add-next c).After-key_length in omega (arith, k.1, k.0, c.well_formed)
-
-pub overflow_add-at-in-loop-at : goal.overflow_add-at-in-loop-at
-overflow_add-at-in-loop-at c = let k = next (goal.at.overflow_add-at-in-loop-at c).After-key_length in omega (arith, k.1, k.0, c.well_formed)
+overflow_add-next c = let k = next (goal.at.overflow_add-next c).In-Some in omega (arith, k.1, k.0, c.well_formed)
 
 pub slice_bounds-keep-count : goal.slice_bounds-keep-count
-slice_bounds-keep-count c = omega (arith, (next (goal.at.slice_bounds-keep-count c).After-key_length).0)
+slice_bounds-keep-count c = omega (arith, (next (goal.at.slice_bounds-keep-count c).In-Some).0)
 
 pub slice_bounds-keep-start : goal.slice_bounds-keep-start
-slice_bounds-keep-start c = omega (arith, (next (goal.at.slice_bounds-keep-start c).After-key_length).0)
+slice_bounds-keep-start c = omega (arith, (next (goal.at.slice_bounds-keep-start c).In-Some).0)
 
 pub slice_bounds-keep-end : goal.slice_bounds-keep-end
-slice_bounds-keep-end c = let k = next (goal.at.slice_bounds-keep-end c).After-key_length in omega (arith, k.0, k.1)
+slice_bounds-keep-end c = let k = next (goal.at.slice_bounds-keep-end c).In-Some in omega (arith, k.0, k.1)
 
-pub shape_of-entries-in-Refused : goal.shape_of-entries-in-Refused
-shape_of-entries-in-Refused c = c.keep.auto.entries ∙ c.loop-at.invariant.1
+pub returns-in_err-keep : goal.returns-in_err-keep
+returns-in_err-keep c = let L = c.loop-length in
+    let p = err_from_is_err_and c.from_residual.result c.from_residual.ensures.1 in
+    subst (λ r. AllEntered c.args.body.now r c.keep.new.entries) (sym (p.1 ∙ ap (λ w. Err w) p.2))
+    (key_refused L.at L.n L.entries c.args.body.now L.invariant.0 c.in-Some.length (told (goal.at.returns-in_err-keep c).In-Some) c.keep.result
+    c.in_err-keep.field-0.0 c.keep.new.entries c.keep.ensures c.in_err-keep.was)
 
-pub returns-in-Refused : goal.returns-in-Refused
-returns-in-Refused c =
-    key_refused c.loop-at.at c.loop-at.n c.loop-at.entries c.args.body.now c.loop-at.invariant.0
-    c.loop-at-test.true
-    c.key_length.result
-    c.key_length.ensures c.keep.result
-    c.in-Refused.why c.keep.new.entries c.keep.ensures
-    c.in-Refused.is
+pub loop-length-smaller : goal.loop-length-smaller
+loop-length-smaller c = let k = next (goal.at.loop-length-smaller c).In-Some in omega (arith, k.0, k.1)
 
-pub overflow_add-n : goal.overflow_add-n
-overflow_add-n c = omega (arith, c.loop-at.invariant.0.2.few, c.loop-at.invariant.0.2.within, c.well_formed)
-
-pub loop-at-smaller : goal.loop-at-smaller
-loop-at-smaller c = let k = next (goal.at.loop-at-smaller c).After-key_length in omega (arith, k.0, k.1)
-
-pub loop-at-preserved : goal.loop-at-preserved
-loop-at-preserved c = (
-  key_begun c.loop-at.at c.loop-at.n c.loop-at.entries c.args.body.now c.loop-at.invariant.0
-      c.loop-at-test.true
-      c.key_length.result
-      c.key_length.ensures c.keep.result
-      c.keep.new.entries c.keep.ensures c.in-Fine.is,
-  c.keep.auto.entries ∙ c.loop-at.invariant.1,
+pub loop-length-preserved : goal.loop-length-preserved
+loop-length-preserved c = let L = c.loop-length in (
+  key_begun L.at L.n L.entries c.args.body.now L.invariant.0 c.in-Some.length (told (goal.at.loop-length-preserved c).In-Some) c.keep.result
+      c.keep.new.entries c.keep.ensures c.in_ok-keep.was,
+  c.keep.auto.entries ∙ L.invariant.1,
 )
 
-pub shape_of-entries : goal.shape_of-entries
-shape_of-entries c = c.loop-at.invariant.1
-
 pub returns : goal.returns
-returns c = let b = c.loop-at.invariant.0 in
-    whichever (count.Counted c.loop-at.n) c.loop-at.entries c.args.body.now b.0 b.1
-    (all_entered c.loop-at.at c.loop-at.n c.loop-at.entries c.args.body.now b.0 b.2 c.loop-at-test.false)
+returns c = let L = c.loop-length in let b = L.invariant.0 in
+    whichever (Ok L.n) L.entries c.args.body.now b.0 b.1
+    (all_entered L.at L.n L.entries c.args.body.now b.0 b.2 (sym c.key_length.ensures ∙ c.in_default.is))

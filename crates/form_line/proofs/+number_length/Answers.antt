@@ -3,7 +3,7 @@ use mathlib.Core.Path.{sym, ap}
 use native.Mathlib.Omega.{arith}
 use lib.ListN.{length}
 use Rattle.form_line.specs.Decimal.{decimal_digit, decimal_tenth, decimal_short}
-use Prim.Native.Nat.{ℕ, ◌/◌, ◌<◌}
+use Prim.Native.Nat.{◌/◌}
 use Rattle.form_line.proofs.+number_length.Goals as goal
 
 pub returns-then-n-lt10 : goal.returns-then-n-lt10

@@ -2,21 +2,20 @@
 use mathlib.Core.Path.{◌≡◌, sym, ap, ◌∙◌}
 use native.Mathlib.Omega.{arith}
 use lib.ListN.{length}
-use borrow.Author.Rules.{rules}
 use Rattle.form_line.specs.Line.{key_shown, entry_shown}
 use Rattle.form_line.specs.Text.{entry_found, entry_not_refused, entry_shown_lem, root_shown, shown_length}
 use Rattle.quadkey.specs.Key.{key_of}
 use Rattle.form_line.proofs.key_length.Goals as goal
-use Rattle.form_line.proofs.key_length.Goals.{In-Found}
+use Rattle.form_line.proofs.key_length.Goals.{In-Ok}
 
-its_key : (c : In-Found) → entry_shown c.args.entry ≡ key_shown (key_of c.in-Found.t.x c.in-Found.t.y c.in-Found.t.z)
-its_key c = entry_shown_lem _ _ (entry_found _ c.entry_tile.ensures c.in-Found.is)
+its_key : (c : In-Ok) → entry_shown c.args.entry ≡ key_shown (key_of c.in-Ok.t.x c.in-Ok.t.y c.in-Ok.t.z)
+its_key c = entry_shown_lem _ _ (entry_found _ c.entry_tile.ensures c.in-Ok.is)
 
 pub returns-then-t-eq0 : goal.returns-then-t-eq0
-returns-then-t-eq0 c = sym (ap length (its_key (goal.at.returns-then-t-eq0 c).In-Found ∙ root_shown _ _ _ c.if-t-eq0.true))
+returns-then-t-eq0 c = sym (ap length (its_key (goal.at.returns-then-t-eq0 c).In-Ok ∙ root_shown _ _ _ c.if-t-eq0.true))
 
 pub returns-else-t-eq0 : goal.returns-else-t-eq0
-returns-else-t-eq0 c = sym (ap length (its_key (goal.at.returns-else-t-eq0 c).In-Found) ∙ shown_length c.in-Found.t.x c.in-Found.t.y c.in-Found.t.z (omega (arith, c.if-t-eq0.false)))
+returns-else-t-eq0 c = sym (ap length (its_key (goal.at.returns-else-t-eq0 c).In-Ok) ∙ shown_length c.in-Ok.t.x c.in-Ok.t.y c.in-Ok.t.z (omega (arith, c.if-t-eq0.false)))
 
-pub returns-in-Refused : goal.returns-in-Refused
-returns-in-Refused c = absurd (entry_not_refused _ c.requires c.entry_tile.ensures c.in-Refused.is)
+pub returns-in-Err : goal.returns-in-Err
+returns-in-Err c = absurd (entry_not_refused _ c.requires c.entry_tile.ensures c.in-Err.is)

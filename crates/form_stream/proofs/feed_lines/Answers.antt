@@ -1,12 +1,12 @@
 -- `feed_lines` meets its contract: line by line, the scan goes on as it would have gone.
+use Rattle.errors.specs.declared.Refusal.{Refusal}
+use Rattle.std.specs.Prelude.{Result}
 use mathlib.Core.Path.{◌≡◌, refl, sym, subst, ◌∙◌}
 use mathlib.Core.List.{List}
 use Prim.Native.Nat.{ℕ, ◌<◌, ◌-◌}
 use native.Mathlib.Omega.{arith}
 use lib.ListN.{length, take, get_or}
 use lib.Seq.{length-take-le}
-use borrow.Author.Rules.{rules}
-use Rattle.errors.specs.declared.Count.{Count}
 use Rattle.form.specs.Form.{newline}
 use Rattle.form_line.specs.Stores.{part_from, with_part, part_length, written_within}
 use Rattle.form_stream.specs.Scan.{scan_at}
@@ -72,10 +72,10 @@ module _ (c : After-reply) where
   part_same : length part ≡ length c.loop-i.out - c.loop-i.filled
   part_same = c.reply.auto.out ∙ part_length c.loop-i.filled c.loop-i.out
 
-  replied : {r : Count} → c.reply.result ≡ r
+  replied : {r : Result ℕ Refusal} → c.reply.result ≡ r
       → left r part ≡ written 0 (reply (take c.take_line-taken.result.len line_taken)) (part_from c.loop-i.filled c.loop-i.out)
   replied e =
-      subst (λ (r : Count). left r part ≡ written 0 (reply (take c.take_line-taken.result.len line_taken)) (part_from c.loop-i.filled c.loop-i.out)) e
+      subst (λ (r : Result ℕ Refusal). left r part ≡ written 0 (reply (take c.take_line-taken.result.len line_taken)) (part_from c.loop-i.filled c.loop-i.out)) e
       c.reply.ensures
 
   line_ends : (c.take_line-taken.result.at < length c.args.chunk.now) × (get_or c.args.chunk.now c.take_line-taken.result.at 0 ≡ newline)
@@ -91,7 +91,7 @@ pub overflow_add-filled : goal.overflow_add-filled
 overflow_add-filled c = omega (
   arith,
   written_within (reply (take c.take_line-taken.result.len c.take_line-taken.new.line))
-      (part_from c.loop-i.filled c.loop-i.out) (part (goal.at.overflow_add-filled c).After-reply) refl (replied (goal.at.overflow_add-filled c).After-reply c.in-Counted.is),
+      (part_from c.loop-i.filled c.loop-i.out) (part (goal.at.overflow_add-filled c).After-reply) refl (replied (goal.at.overflow_add-filled c).After-reply c.in-Ok.is),
   part_same (goal.at.overflow_add-filled c).After-reply,
   (taken (goal.at.overflow_add-filled c).After-reply).room,
   c.loop-i.invariant.1,
@@ -103,17 +103,17 @@ loop-i-smaller c = omega (arith, (line_ends (goal.at.loop-i-smaller c).After-rep
 
 pub loop-i-preserved : goal.loop-i-preserved
 loop-i-preserved c = let e = line_ends (goal.at.loop-i-preserved c).After-reply in
-    (c.take_line-taken.auto.line ∙ c.loop-i.invariant.0, out_same (goal.at.loop-i-preserved c).After-reply, goes_behind_the_line _ _ _ _ _ _ _ (taken (goal.at.loop-i-preserved c).After-reply) c.in-Counted.m (part (goal.at.loop-i-preserved c).After-reply) (part_same (goal.at.loop-i-preserved c).After-reply) e.0 e.1 (replied (goal.at.loop-i-preserved c).After-reply c.in-Counted.is))
+    (c.take_line-taken.auto.line ∙ c.loop-i.invariant.0, out_same (goal.at.loop-i-preserved c).After-reply, goes_behind_the_line _ _ _ _ _ _ _ (taken (goal.at.loop-i-preserved c).After-reply) c.in-Ok.m (part (goal.at.loop-i-preserved c).After-reply) (part_same (goal.at.loop-i-preserved c).After-reply) e.0 e.1 (replied (goal.at.loop-i-preserved c).After-reply c.in-Ok.is))
 
-pub shape_of-line-in-Refused : goal.shape_of-line-in-Refused
-shape_of-line-in-Refused c = c.take_line-taken.auto.line ∙ c.loop-i.invariant.0
+pub shape_of-line-in-Err : goal.shape_of-line-in-Err
+shape_of-line-in-Err c = c.take_line-taken.auto.line ∙ c.loop-i.invariant.0
 
-pub shape_of-out-in-Refused : goal.shape_of-out-in-Refused
-shape_of-out-in-Refused c = out_same (goal.at.shape_of-out-in-Refused c).After-reply
+pub shape_of-out-in-Err : goal.shape_of-out-in-Err
+shape_of-out-in-Err c = out_same (goal.at.shape_of-out-in-Err c).After-reply
 
-pub returns-in-Refused : goal.returns-in-Refused
-returns-in-Refused c = let e = line_ends (goal.at.returns-in-Refused c).After-reply in
-    goes_no_further _ _ _ _ _ _ _ (taken (goal.at.returns-in-Refused c).After-reply) e.0 e.1 (part (goal.at.returns-in-Refused c).After-reply) c.in-Refused.field-0 (replied (goal.at.returns-in-Refused c).After-reply c.in-Refused.is)
+pub returns-in-Err : goal.returns-in-Err
+returns-in-Err c = let e = line_ends (goal.at.returns-in-Err c).After-reply in
+    goes_no_further _ _ _ _ _ _ _ (taken (goal.at.returns-in-Err c).After-reply) e.0 e.1 (part (goal.at.returns-in-Err c).After-reply) c.in-Err.field-0 (replied (goal.at.returns-in-Err c).After-reply c.in-Err.is)
 
 pub shape_of-line : goal.shape_of-line
 shape_of-line c = c.loop-i.invariant.0

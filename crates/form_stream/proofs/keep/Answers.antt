@@ -2,7 +2,6 @@
 use mathlib.Core.Path.{refl, sym}
 use native.Mathlib.Omega.{arith}
 use lib.Seq.{set_out}
-use borrow.Author.Rules.{rules}
 use Rattle.form_stream.proofs.keep.Goals as goal
 
 pub returns-then-len-line : goal.returns-then-len-line

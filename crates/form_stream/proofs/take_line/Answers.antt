@@ -1,10 +1,7 @@
 -- `take_line` meets its contract: up to the end of the line or of the chunk, each byte goes to the line.
-use mathlib.Core.Path.{◌≡◌, refl, ◌∙◌}
-use Prim.Native.Nat.{◌≤◌, ◌-◌}
+use mathlib.Core.Path.{refl, ◌∙◌}
 use native.Mathlib.Omega.{arith}
-use lib.ListN.{length}
-use borrow.Author.Rules.{rules}
-use Rattle.form_stream.specs.Steps.{Takes, none_taken, byte_taken}
+use Rattle.form_stream.specs.Steps.{none_taken, byte_taken}
 use Rattle.form_stream.proofs.take_line.Goals as goal
 
 pub loop-i-init : goal.loop-i-init

@@ -1,10 +1,8 @@
 -- `take_line` meets its contract: up to the end of the line or of the chunk, each byte goes to the line.
-use mathlib.Core.Path.{◌≡◌, refl, ◌∙◌}
+use mathlib.Core.Path.{◌≡◌}
 use Prim.Native.Nat.{◌≤◌, ◌-◌}
-use native.Mathlib.Omega.{arith}
 use lib.ListN.{length}
-use borrow.Author.Rules.{rules}
-use Rattle.form_stream.specs.Steps.{Takes, none_taken, byte_taken}
+use Rattle.form_stream.specs.Steps.{Takes}
 use Rattle.form_stream.proofs.take_line.Given as goal
 
 abbrev pub invariant-loop-i : goal.invariant-loop-i

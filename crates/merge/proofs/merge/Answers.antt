@@ -1,26 +1,24 @@
--- `merge` is the work of that name, its value taken apart.
+-- `merge` is the work of that name.
+use mathlib.Core.Path.{◌≡◌, subst}
 use mathlib.Core.List.{[]}
+use Rattle.std.proofs.lemmas.Result.{err_from_is_err_and}
 use Rattle.merge.proofs.Doors.{merge_refused, merge_found}
-use Rattle.work.specs.Told.{told_refusal}
+use Rattle.work.specs.Work.{told_left, outcome_of}
 use Rattle.work.specs.declared.Simplification.TheVariants.{Merge}
 use Rattle.work.specs.declared.Work.TheVariants.{Simplified}
 use Rattle.merge.proofs.merge.Goals as goal
 
-pub refusal-requires : goal.refusal-requires
-refusal-requires c = let r = c.run-r in
-    let a = c.args in
+pub returns-in_err-done : goal.returns-in_err-done
+returns-in_err-done c = let a = c.args in
     let m = c.unwrap_or-m in
-    told_refusal (Simplified Merge) m.result r.result a.list.now [] _ a.out.now r.ensures c.if-r-lt-FIRST_VALUE.true
-
-pub returns-then-r-lt-FIRST_VALUE : goal.returns-then-r-lt-FIRST_VALUE
-returns-then-r-lt-FIRST_VALUE c = let r = c.run-r in
-    let m = c.unwrap_or-m in
-    let a = c.args in
-    rw (← m.ensures)
-    (merge_refused r.result m.result a.list.now a.out.now _ r.ensures c.refusal.result c.if-r-lt-FIRST_VALUE.true c.refusal.ensures)
+    let p = err_from_is_err_and c.from_residual.result c.from_residual.ensures.1 in
+    rw (p.1, p.2, ← m.ensures)
+    (merge_refused m.result a.list.now a.out.now c.run.new.out _
+    (subst (λ r. told_left r c.run.new.out ≡ outcome_of (Simplified Merge) m.result a.list.now [] a.out.now) c.in_err-done.was c.run.ensures))
 
 pub returns : goal.returns
-returns c = let r = c.run-r in
+returns c = let a = c.args in
     let m = c.unwrap_or-m in
-    let a = c.args in
-    rw (← m.ensures) (merge_found r.result m.result a.list.now a.out.now _ r.ensures c.if-r-lt-FIRST_VALUE.false)
+    rw (← m.ensures)
+    (merge_found m.result a.list.now a.out.now c.run.new.out c.in_ok-done.done
+    (subst (λ r. told_left r c.run.new.out ≡ outcome_of (Simplified Merge) m.result a.list.now [] a.out.now) c.in_ok-done.was c.run.ensures))

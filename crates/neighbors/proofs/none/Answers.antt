@@ -1,10 +1,6 @@
 -- `neighbors::none` meets its contract: what `check` says decides.
-use mathlib.Core.Path.{sym}
-use Rattle.errors.specs.Laws.{check_fine, check_refused, refused_answer}
+use Rattle.errors.specs.Laws.{check_fine}
 use Rattle.neighbors.proofs.none.Goals as goal
 
-pub returns-in-Fine : goal.returns-in-Fine
-returns-in-Fine c = rw (check_fine c.in-Fine.is c.check.ensures)
-
-pub returns-in-Refused : goal.returns-in-Refused
-returns-in-Refused c = refused_answer c.in-Refused.why _ _ (sym (check_refused c.in-Refused.is c.check.ensures))
+pub returns : goal.returns
+returns c = rw (check_fine c.in_ok-check.was c.check.ensures)

@@ -1,14 +1,7 @@
--- `parent::iter_parents` meets its contract: what `check` says decides.
-use mathlib.Core.Path.{sym}
-use Rattle.errors.specs.Laws.{check_fine, check_refused, refused_answer}
+-- `parent::iter_parents` meets its contract: what `check` lets through is a tile of the map.
+use Rattle.errors.specs.Laws.{check_fine}
 use Rattle.tile.specs.OnMap.{accepted_on_map}
 use Rattle.parent.proofs.iter_parents.Goals as goal
 
 pub above-current-requires : goal.above-current-requires
-above-current-requires c = accepted_on_map _ _ _ (check_fine c.in-Fine.is c.check.ensures)
-
-pub returns-in-Fine : goal.returns-in-Fine
-returns-in-Fine c = rw (check_fine c.in-Fine.is c.check.ensures, c.above-current.ensures)
-
-pub returns-in-Refused : goal.returns-in-Refused
-returns-in-Refused c = refused_answer c.in-Refused.why _ _ (sym (check_refused c.in-Refused.is c.check.ensures))
+above-current-requires c = accepted_on_map _ _ _ (check_fine c.in_ok-check.was c.check.ensures)

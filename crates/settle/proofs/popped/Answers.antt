@@ -18,14 +18,14 @@ one_more l start count left f h i k j = pick (dec_lt i left)
 pub loop-left-init : goal.loop-left-init
 loop-left-init c = (omega arith, λ i h k. absurd (omega arith))
 
-pub returns-then-locations-left : goal.returns-then-locations-left
-returns-then-locations-left c = let L = c.loop-left in
-    record { within = L.invariant.0; off = L.invariant.1; last = λ h. c.if-locations-left.true }
+pub returns-else-start-locations : goal.returns-else-start-locations
+returns-else-start-locations c = let L = c.loop-left in
+    record { within = L.invariant.0; off = L.invariant.1; last = λ h. c.if-start-locations.false }
 
 pub loop-left-preserved : goal.loop-left-preserved
 loop-left-preserved c = let L = c.loop-left in
     let a = c.args in
-    (omega arith, one_more a.locations.now a.start a.count L.left L.invariant.1 c.if-locations-left.false)
+    (omega arith, one_more a.locations.now a.start a.count L.left L.invariant.1 c.if-start-locations.true)
 
-pub returns : goal.returns
-returns c = let L = c.loop-left in record { within = L.invariant.0; off = L.invariant.1; last = λ h. absurd (omega arith) }
+pub returns-after-loop-left : goal.returns-after-loop-left
+returns-after-loop-left c = let L = c.loop-left in record { within = L.invariant.0; off = L.invariant.1; last = λ h. absurd (omega arith) }

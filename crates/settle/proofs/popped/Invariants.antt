@@ -1,5 +1,5 @@
 -- `popped`: the locations from `left` on are above `start`.
-use Prim.Native.Nat.{ℕ, ◌-◌, ◌≤◌, ◌<◌}
+use Prim.Native.Nat.{ℕ, ◌≤◌, ◌<◌}
 use lib.ListN.{get_or}
 use Rattle.settle.proofs.popped.Given as goal
 

@@ -1,8 +1,8 @@
 -- `settle`: after i numbers the stack is what the pass makes of them.
 use mathlib.Core.List.{List}
-use Prim.Native.Nat.{ℕ, ◌-◌, ◌≤◌}
+use Prim.Native.Nat.{ℕ, ◌≤◌, ◌<◌}
 use native.Mathlib.Omega.{arith}
-use lib.ListN.{get_or}
+use lib.ListN.{length, get_or}
 use Rattle.quadtree.specs.Locations.{IsLocation, room}
 use Rattle.settle.specs.Middle.{mid_begun, next_location, joins_less, dropped, kept_top, ended}
 use Rattle.settle.proofs.settle.Goals as goal
@@ -15,7 +15,7 @@ loop-i-init c = mid_begun c.args.m c.args.locations.now
 next : (c : Then-end-k) → IsLocation (get_or c.loop-i.locations c.loop-i.i 0)
 next c =
     let L = c.loop-i in
-    next_location c.args.m c.args.locations.now L.locations L.count L.end L.i c.requires.0 L.invariant c.loop-i-test.true
+    next_location c.args.m c.args.locations.now L.locations L.count L.end L.i c.requires.0 L.invariant (omega (arith, L.invariant.long))
 
 pub low_bit-low-requires : goal.low_bit-low-requires
 low_bit-low-requires c = next (goal.at.low_bit-low-requires c).Then-end-k
@@ -37,11 +37,11 @@ top_less c =
     let i = c.loop-i.invariant in
     omega (arith, i.order, c.popped-kept.ensures.within, joins_less c.joined-top.ensures)
 
-pub offset_bounds-locations-at : goal.offset_bounds-locations-at
-offset_bounds-locations-at c = omega (arith, top_less (goal.at.offset_bounds-locations-at c).After-joined-top)
+pub offset_bounds-locations-top : goal.offset_bounds-locations-top
+offset_bounds-locations-top c = omega (arith, top_less (goal.at.offset_bounds-locations-top c).After-joined-top)
 
-pub bounds-locations-at : goal.bounds-locations-at
-bounds-locations-at c = omega (arith, top_less (goal.at.bounds-locations-at c).After-joined-top)
+pub bounds-locations-top : goal.bounds-locations-top
+bounds-locations-top c = omega (arith, top_less (goal.at.bounds-locations-top c).After-joined-top)
 
 pub overflow_add-count : goal.overflow_add-count
 overflow_add-count c = omega (arith, top_less (goal.at.overflow_add-count c).After-joined-top)
@@ -53,7 +53,7 @@ pub loop-i-preserved : goal.loop-i-preserved
 loop-i-preserved c = let L = c.loop-i in
     let m = c.args.m in
     let s₀ : List ℕ = c.args.locations.now in
-    let h = c.loop-i-test.true in
+    let h : L.i < length L.locations = omega (arith, L.invariant.long) in
     elim c.if-end-k.branch [
       | then-end-k w ↦ rw (w.locations-is, w.count-is, w.end-is) (kept_top m s₀ L.locations L.count L.end L.i c.requires.0 c.requires.1 L.invariant h w.low_bit-low.result w.popped-kept.result
           w.joined-top.result.count w.joined-top.result.location w.low_bit-low.ensures w.if-end-k.true w.popped-kept.ensures w.joined-top.ensures)
@@ -63,4 +63,4 @@ loop-i-preserved c = let L = c.loop-i in
 pub returns : goal.returns
 returns c = let L = c.loop-i in
     let a = c.args in
-    ended a.m a.locations.now L.locations L.count L.end L.i L.invariant c.loop-i-test.false
+    ended a.m a.locations.now L.locations L.count L.end L.i L.invariant (omega (arith, L.invariant.long))

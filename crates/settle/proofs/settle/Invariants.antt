@@ -1,11 +1,6 @@
 -- `settle`: after i numbers the stack is what the pass makes of them.
-use Prim.Native.Nat.{◌-◌}
-use lib.ListN.{length}
 use Rattle.settle.specs.Middle.{Mid}
 use Rattle.settle.proofs.settle.Given as goal
 
 abbrev pub invariant-loop-i : goal.invariant-loop-i
 invariant-loop-i l = Mid l.m l.initial.locations l.locations l.count l.end l.i
-
-abbrev pub decreases-loop-i : goal.decreases-loop-i
-decreases-loop-i l = length l.initial.locations - l.i

@@ -1,5 +1,5 @@
 -- `siblings::siblings` meets its contract: the tile is checked, then its zoom, then the memory, and then three entries are written.
-use mathlib.Core.Path.{◌≡◌, refl, sym, ap, ap₂, ◌∙◌}
+use mathlib.Core.Path.{◌≡◌, refl, ap, ap₂, ◌∙◌}
 use Prim.Native.Nat.{ℕ, ◌<◌}
 use native.Mathlib.Omega.{arith}
 use lib.Dec.{eqb}
@@ -7,7 +7,7 @@ use lib.ListN.{length-set}
 use borrow.Author.Tests.{eq-eqb, ne_eqb}
 use Rattle.ids.specs.Entry.{entry_of, entries_of}
 use Rattle.errors.specs.Answer.{◌when◌, ◌else◌}
-use Rattle.errors.specs.Laws.{check_fine, check_refused, stands}
+use Rattle.errors.specs.Laws.{check_fine}
 use Rattle.errors.specs.Memory.{written_refused, written_short, written_done}
 use Rattle.tile.specs.OnMap.{OnMap, tile_refusal, accepted_on_map}
 use Rattle.errors.specs.declared.Refusal.TheVariants.{NoRelative}
@@ -16,19 +16,14 @@ use Rattle.siblings.specs.Laws.{other_small, three_places}
 use Rattle.siblings.proofs.siblings.Goals as goal
 use Rattle.siblings.proofs.siblings.Goals.{Else-out-lt3}
 
-pub returns-in-Refused : goal.returns-in-Refused
-returns-in-Refused c = let a = c.args in
-    let e = check_refused c.in-Refused.is c.check.ensures in
-    written_refused c.in-Refused.why (entries_of (siblings_of a.x a.y a.z)) _ (sym (stands c.in-Refused.why _ e))
-
 pub returns-then-z-eq0 : goal.returns-then-z-eq0
 returns-then-z-eq0 c = let a = c.args in
-    let fine = check_fine c.in_default.is c.check.ensures in
+    let fine = check_fine c.in_ok-check.was c.check.ensures in
     rw (fine, eq-eqb _ _ c.if-z-eq0.true) (written_refused NoRelative (entries_of (siblings_of a.x a.y a.z)) _ refl)
 
 pub returns-then-out-lt3 : goal.returns-then-out-lt3
 returns-then-out-lt3 c = let a = c.args in
-    let fine = check_fine c.in_default.is c.check.ensures in
+    let fine = check_fine c.in_ok-check.was c.check.ensures in
     let e : (tile_refusal a.x a.y a.z else 3 when eqb a.z 0) ≡ 0 = rw (fine, ne_eqb _ _ c.if-z-eq0.false) in
     written_short (entries_of (siblings_of a.x a.y a.z)) _ e c.if-out-lt3.true
 
@@ -36,7 +31,7 @@ returns-then-out-lt3 c = let a = c.args in
 fine : (c : Else-out-lt3)
     → tile_refusal c.args.x c.args.y
     c.args.z ≡ 0
-fine c = check_fine c.in_default.is c.check.ensures
+fine c = check_fine c.in_ok-check.was c.check.ensures
 
 column : {x y z n : ℕ} → OnMap x y z → 0 < z → n ≡ other x → OnMap n y z
 column {x = x} {z = z} m p e = record { zoom = m.zoom; column = rw e (other_small x z p m.column); row = m.row }

@@ -7,7 +7,7 @@ use Rattle.constants.specs.Limits.{max_entries}
 use Rattle.ids.specs.Entry.{is_entry}
 use Rattle.tile.specs.declared.Tile.{Tile}
 use Rattle.tile_zbox_around.specs.Around.{of_zoom, zoom_of_first}
-use Rattle.tile_zbox_around.specs.Laws.{entry_at, list_long, list_stranger, list_empty, list_mixed, one_zoom_accepted}
+use Rattle.tile_zbox_around.specs.Laws.{all_listed, entry_at, list_long, list_stranger, list_empty, list_mixed, one_zoom_accepted}
 use Rattle.tile_zbox_around.proofs.list_check.Goals as goal
 use Rattle.tile_zbox_around.proofs.list_check.Goals.{After-all_of_zoom, Else-not-all_entries}
 
@@ -17,10 +17,10 @@ returns-then-list-gt-MAX_ENTRIES c = sym (list_long _ c.if-list-gt-MAX_ENTRIES.t
 
 pub returns-then-not-all_entries : goal.returns-then-not-all_entries
 unfolding max_entries
-returns-then-not-all_entries c = sym (list_stranger _ c.if-list-gt-MAX_ENTRIES.false (sym c.all_entries.ensures ∙ c.if-not-all_entries.true))
+returns-then-not-all_entries c = sym (list_stranger _ c.if-list-gt-MAX_ENTRIES.false (sym (all_listed is_entry _) ∙ (sym c.all_entries.ensures ∙ c.if-not-all_entries.true)))
 
 entries : (c : Else-not-all_entries) → all_of is_entry c.args.list.now ≡ true
-entries c = sym c.all_entries.ensures ∙ c.if-not-all_entries.false
+entries c = sym (all_listed is_entry _) ∙ (sym c.all_entries.ensures ∙ c.if-not-all_entries.false)
 
 pub returns-then-list-eq0 : goal.returns-then-list-eq0
 unfolding max_entries

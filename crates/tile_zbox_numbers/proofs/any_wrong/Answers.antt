@@ -1,44 +1,47 @@
--- `tile_zbox_numbers::any_wrong` meets its contract: whether any box has wrong edges is whether one of those from `at` on has.
-use mathlib.Core.Path.{◌≡◌, refl, sym, ap, ◌∙◌}
-use mathlib.Core.Bool.{false}
+-- `tile_zbox_numbers::any_wrong` meets its contract: whether any box has wrong edges is whether one of those from here on has.
+use mathlib.Core.Path.{◌≡◌, sym, ap, ◌∙◌}
+use mathlib.Core.List.{[]}
+use Prim.Native.Nat.{◌<◌}
 use native.Mathlib.Omega.{arith}
-use lib.ListN.{drop}
+use lib.ListN.{length, get_or}
+use Rattle.tile_zbox.specs.declared.TileZBox.{TileZBox}
+use Rattle.tile_zbox.specs.Box.{no_box, wrong_edges}
 use Rattle.bits.specs.Tests.{any_of}
-use Rattle.tile_zbox.specs.Box.{wrong_edges}
-use Rattle.tile_zbox_numbers.specs.Accepted.{any_here, any_later, any_of_empty, none_of, zoom_at}
-use Rattle.tile_zbox_numbers.specs.Boxes.{deep, box_from}
-use Rattle.tile_zbox_numbers.specs.Fives.{boxes_step, boxes_end, next_box_zoom}
+use Rattle.tile_zbox_numbers.specs.Accepted.{any_of_empty}
+use Rattle.tile_zbox_numbers.specs.Arrays.{turn_of, past_of, shallow_at, any_from, any_found}
+use Rattle.tile_zbox_numbers.specs.Boxes.{box_from, boxes_of}
 use Rattle.tile_zbox_numbers.proofs.any_wrong.Goals as goal
-use Rattle.tile_zbox_numbers.proofs.any_wrong.Goals.{After-wrong_edges}
+use Rattle.tile_zbox_numbers.proofs.any_wrong.Goals.{In-loop-five, After-wrong_edges}
 
-pub loop-left-init : goal.loop-left-init
-loop-left-init c = (omega arith, c.requires, refl)
+-- the turn's array is the box at its place
+turn : (c : In-loop-five)
+    → (c.loop-five.five-index < length (boxes_of c.args.boxes.now))
+    × (box_from (get_or c.fives-five-items.result.now c.loop-five.five-index []) ≡ get_or (boxes_of c.args.boxes.now) c.loop-five.five-index no_box)
+turn c = turn_of _ _ c.loop-five.five-index c.fives-five-items.ensures c.loop-five-test.true
 
-pub box_at-requires : goal.box_at-requires
-box_at-requires c = record { at_in_bounds = omega arith; at_bound = zoom_at c.loop-left.left c.loop-left.at _ c.loop-left-test.true c.loop-left.invariant.1 }
+pub box_of-requires : goal.box_of-requires
+box_of-requires c = let t = turn (goal.at.box_of-requires c).In-loop-five in
+    omega (arith, ap (λ (b : TileZBox). b.zoom) t.1, shallow_at (boxes_of c.args.boxes.now) c.loop-five.five-index c.requires t.0)
 
 pub wrong_edges-requires : goal.wrong_edges-requires
-wrong_edges-requires c = rw (c.box_at.ensures, next_box_zoom c.args.boxes.now c.loop-left.at)
-    (zoom_at c.loop-left.left c.loop-left.at _ c.loop-left-test.true c.loop-left.invariant.1)
+wrong_edges-requires c = let t = turn (goal.at.wrong_edges-requires c).In-loop-five in
+    rw (c.box_of.ensures ∙ t.1) (shallow_at (boxes_of c.args.boxes.now) c.loop-five.five-index c.requires t.0)
 
-edges : (c : After-wrong_edges)
-    → wrong_edges (box_from (drop c.loop-left.at c.args.boxes.now)) ≡ c.wrong_edges.result
-edges c = sym (c.wrong_edges.ensures ∙ ap wrong_edges c.box_at.ensures)
+edges : (c : After-wrong_edges) → wrong_edges (get_or (boxes_of c.args.boxes.now) c.loop-five.five-index no_box) ≡ c.wrong_edges.result
+edges c = let t = turn_of _ _ c.loop-five.five-index c.fives-five-items.ensures c.loop-five-test.true in
+    sym (c.wrong_edges.ensures ∙ ap wrong_edges (c.box_of.ensures ∙ t.1))
 
 pub returns-then-wrong_edges : goal.returns-then-wrong_edges
-returns-then-wrong_edges c = let l = c.args.boxes.now in
-    let i = c.loop-left in
-    sym (i.invariant.2 ∙ (ap (any_of wrong_edges) (boxes_step i.left i.at l c.loop-left-test.true)
-    ∙ any_here wrong_edges (box_from (drop i.at l)) _ (edges (goal.at.returns-then-wrong_edges c).After-wrong_edges ∙ c.if-wrong_edges.true)))
+returns-then-wrong_edges c = let here = goal.at.returns-then-wrong_edges c in
+    sym (c.loop-five.invariant ∙ any_found wrong_edges (boxes_of c.args.boxes.now) c.loop-five.five-index (turn here.In-loop-five).0
+    (edges here.After-wrong_edges ∙ c.if-wrong_edges.true))
 
-pub loop-left-preserved : goal.loop-left-preserved
-loop-left-preserved c = let l = c.args.boxes.now in
-    let i = c.loop-left in
-    let s = boxes_step i.left i.at l c.loop-left-test.true in
-    let d = none_of deep _ _ (rw s at i.invariant.1) in
-    (omega arith, d.1, i.invariant.2 ∙ (ap (any_of wrong_edges) s ∙ any_later wrong_edges (box_from (drop i.at l)) _ (edges (goal.at.loop-left-preserved c).After-wrong_edges ∙ c.if-wrong_edges.false)))
+pub loop-five-preserved : goal.loop-five-preserved
+loop-five-preserved c = let here = goal.at.loop-five-preserved c in
+    c.loop-five.invariant ∙ any_from wrong_edges (boxes_of c.args.boxes.now) c.loop-five.five-index (turn here.In-loop-five).0
+    (edges here.After-wrong_edges ∙ c.if-wrong_edges.false)
 
 pub returns : goal.returns
-returns c = sym (c.loop-left.invariant.2
-    ∙ (ap (any_of wrong_edges) (boxes_end c.loop-left.left c.loop-left.at c.args.boxes.now (omega arith))
-    ∙ any_of_empty wrong_edges))
+returns c =
+    let p = past_of _ _ c.loop-five.five-index c.fives-five-items.ensures c.loop-five-test.false in
+    sym (c.loop-five.invariant ∙ (ap (any_of wrong_edges) p ∙ any_of_empty wrong_edges))

@@ -1,16 +1,10 @@
--- `tile_zbox_numbers::any_wrong` meets its contract: whether any box has wrong edges is whether one of those from `at` on has.
+-- `tile_zbox_numbers::any_wrong` meets its contract: whether any box has wrong edges is whether one of those from here on has.
 use mathlib.Core.Path.{◌≡◌}
-use mathlib.Core.Bool.{false}
-use Prim.Native.Nat.{◌+◌, ◌*◌, ◌≤◌}
-use lib.ListN.{length, drop}
+use lib.ListN.{drop}
 use Rattle.bits.specs.Tests.{any_of}
 use Rattle.tile_zbox.specs.Box.{wrong_edges}
-use Rattle.tile_zbox_numbers.specs.Boxes.{deep, boxes_from, boxes_of}
+use Rattle.tile_zbox_numbers.specs.Boxes.{boxes_of}
 use Rattle.tile_zbox_numbers.proofs.any_wrong.Given as goal
 
-abbrev pub invariant-loop-left : goal.invariant-loop-left
-invariant-loop-left l = (l.at + l.left * 5 ≤ length l.boxes) × (any_of deep (boxes_from l.left (drop l.at l.boxes)) ≡ false)
-    × (any_of wrong_edges (boxes_of l.boxes) ≡ any_of wrong_edges (boxes_from l.left (drop l.at l.boxes)))
-
-abbrev pub decreases-loop-left : goal.decreases-loop-left
-decreases-loop-left l = l.left
+abbrev pub invariant-loop-five : goal.invariant-loop-five
+invariant-loop-five l = any_of wrong_edges (boxes_of l.boxes) ≡ any_of wrong_edges (drop l.five-index (boxes_of l.boxes))

@@ -5,15 +5,16 @@ use native.Mathlib.Omega.{arith}
 use Rattle.bits.specs.Tests.{any_of}
 use Rattle.constants.specs.Limits.{max_boxes}
 use Rattle.tile_zbox_numbers.specs.Accepted.{boxes_deep, boxes_many, boxes_over, boxes_wrong, all_boxes_accepted}
+use Rattle.tile_zbox_numbers.specs.Arrays.{deep_fives}
 use Rattle.tile_zbox_numbers.specs.Boxes.{deep, boxes_of}
 use Rattle.tile_zbox_numbers.proofs.boxes_check.Goals as goal
 use Rattle.tile_zbox_numbers.proofs.boxes_check.Goals.{Else-any_deep}
 
 pub returns-then-any_deep : goal.returns-then-any_deep
-returns-then-any_deep c = sym (boxes_deep _ (sym c.any_deep.ensures ∙ c.if-any_deep.true))
+returns-then-any_deep c = sym (boxes_deep _ (sym (deep_fives _ _) ∙ rw c.fives.ensures at (sym c.any_deep.ensures ∙ c.if-any_deep.true)))
 
 shallow : (c : Else-any_deep) → any_of deep (boxes_of c.args.boxes.now) ≡ false
-shallow c = sym c.any_deep.ensures ∙ c.if-any_deep.false
+shallow c = sym (deep_fives _ _) ∙ rw c.fives.ensures at (sym c.any_deep.ensures ∙ c.if-any_deep.false)
 
 pub returns-then-boxes-gt-MAX_BOXES : goal.returns-then-boxes-gt-MAX_BOXES
 unfolding max_boxes

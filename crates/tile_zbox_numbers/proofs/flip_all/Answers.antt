@@ -1,53 +1,67 @@
--- `tile_zbox_numbers::flip_all` meets its contract: the boxes before `at` stand flipped at the front of the memory, and those from `at` on are still to come.
-use mathlib.Core.Path.{◌≡◌, refl, ap, ◌∙◌}
-use Prim.Native.Nat.{◌+◌, ◌-◌}
+-- `tile_zbox_numbers::flip_all` meets its contract: the boxes before this one stand flipped at the front of the memory.
+use mathlib.Core.Path.{◌≡◌, ap, ◌∙◌}
+use mathlib.Core.List.{[]}
+use Prim.Native.Nat.{◌<◌, ◌*◌, ◌/◌}
 use native.Mathlib.Omega.{arith}
-use lib.ListN.{length, drop}
+use lib.ListN.{length, get_or}
+use Rattle.tile_zbox.specs.declared.TileZBox.{TileZBox}
 use lib.Seq.{take_all}
-use Rattle.tile_zbox.specs.Box.{IsBox, flipped}
+use Rattle.tile_zbox.specs.Box.{no_box, flipped}
 use Rattle.errors.specs.Memory.{front_length}
-use Rattle.tile_zbox_numbers.specs.Accepted.{Fine, fine_first, zoom_at, accepted_all_boxes}
-use Rattle.tile_zbox_numbers.specs.Boxes.{box_from, boxes_from, flipped_numbers}
-use Rattle.tile_zbox_numbers.specs.Fives.{boxes_step, flipped_length, flip_on}
+use Rattle.tile_zbox_numbers.specs.Accepted.{accepted_all_boxes}
+use Rattle.tile_zbox_numbers.specs.Arrays.{turn_of, fives_count, shallow_at, fine_at, flip_at}
+use Rattle.tile_zbox_numbers.specs.Boxes.{box_from, boxes_of, flipped_numbers}
+use Rattle.tile_zbox_numbers.specs.Fives.{flipped_length}
 use Rattle.tile_zbox_numbers.proofs.flip_all.Goals as goal
-use Rattle.tile_zbox_numbers.proofs.flip_all.Goals.{At-loop-left, In-loop-left}
+use Rattle.tile_zbox_numbers.proofs.flip_all.Goals.{In-loop-k, At-loop-k}
 
-pub loop-left-init : goal.loop-left-init
-loop-left-init c = let k = accepted_all_boxes _ c.requires.boxes_value in (omega (arith, k.whole), k.fine, refl, refl)
+-- the turn's array is the box at its place
+turn : (c : In-loop-k)
+    → (c.loop-k.k < length (boxes_of c.args.boxes.now))
+    × (box_from (get_or c.fives-five-items.result.now c.loop-k.k []) ≡ get_or (boxes_of c.args.boxes.now) c.loop-k.k no_box)
+turn c = turn_of _ _ c.loop-k.k c.fives-five-items.ensures c.loop-k-test.true
 
-pub box_at-requires : goal.box_at-requires
-box_at-requires c = record { at_in_bounds = omega arith; at_bound = zoom_at c.loop-left.left c.loop-left.at _ c.loop-left-test.true c.loop-left.invariant.1.shallow }
+-- as many arrays as whole fives, and the memory keeps its length
+arrays : (c : At-loop-k) → length c.fives-five-items.result.now ≡ length c.args.boxes.now / 5
+arrays c = ap (λ x. length x) c.fives-five-items.ensures ∙ fives_count (length c.args.boxes.now / 5) c.args.boxes.now
 
--- the next box, and those after it
-next : (c : In-loop-left)
-    → IsBox (box_from (drop c.loop-left.at c.args.boxes.now))
-    × Fine (boxes_from (c.loop-left.left - 1) (drop (c.loop-left.at + 5) c.args.boxes.now))
-next c =
-    let i = c.loop-left in
-    fine_first _ _ (rw (boxes_step i.left i.at c.args.boxes.now c.loop-left-test.true) at i.invariant.1)
-
-kept : (c : At-loop-left) → length c.loop-left.out ≡ length c.args.out.now
+kept : (c : At-loop-k) → length c.loop-k.out ≡ length c.args.out.now
 kept c =
-    let g = flipped_length c.args.boxes.now (accepted_all_boxes _ c.requires.boxes_value).whole in
-    ap length c.loop-left.invariant.3 ∙ front_length c.loop-left.at _ _ (omega (arith, c.loop-left.invariant.0)) (omega (arith, c.loop-left.invariant.0))
+    let a = c.args in
+    let g = flipped_length a.boxes.now (accepted_all_boxes _ c.requires.boxes_value).whole in
+    let n = arrays c in
+    ap length c.loop-k.invariant
+    ∙ front_length (5 * c.loop-k.k) (flipped_numbers a.boxes.now) a.out.now (omega (arith, c.loop-k.auto.k-end))
+    (omega (arith, c.loop-k.auto.k-end, c.requires.boxes_in_bounds))
+
+pub box_of-requires : goal.box_of-requires
+box_of-requires c = let t = turn (goal.at.box_of-requires c).In-loop-k in
+    let f = (accepted_all_boxes _ c.requires.boxes_value).fine in
+    omega (arith, ap (λ (b : TileZBox). b.zoom) t.1, shallow_at (boxes_of c.args.boxes.now) c.loop-k.k f.shallow t.0)
 
 pub flipped-requires : goal.flipped-requires
-flipped-requires c = rw c.box_at.ensures (next (goal.at.flipped-requires c).In-loop-left).0
+flipped-requires c = let t = turn (goal.at.flipped-requires c).In-loop-k in
+    let f = (accepted_all_boxes _ c.requires.boxes_value).fine in
+    rw (c.box_of.ensures ∙ t.1) (fine_at (boxes_of c.args.boxes.now) c.loop-k.k f t.0)
 
 pub put-requires : goal.put-requires
-put-requires c = omega (arith, kept (goal.at.put-requires c).At-loop-left)
+put-requires c = let here = goal.at.put-requires c in
+    omega (arith, kept here.At-loop-k, arrays here.At-loop-k, c.loop-k-test.true, c.requires.boxes_in_bounds)
 
-pub loop-left-preserved : goal.loop-left-preserved
-loop-left-preserved c = let i = c.loop-left in
+pub loop-k-preserved : goal.loop-k-preserved
+loop-k-preserved c = let a = c.args in
+    let t = turn (goal.at.loop-k-preserved c).In-loop-k in
     let k = accepted_all_boxes _ c.requires.boxes_value in
-    let f = flip_on c.args.boxes.now c.args.out.now i.left i.at c.loop-left-test.true i.invariant.0 k.whole c.requires.boxes_in_bounds i.invariant.2 in
-    let w = c.flipped.ensures ∙ ap flipped c.box_at.ensures in
-    (omega arith, (next (goal.at.loop-left-preserved c).In-loop-left).1, f.0, c.put.ensures ∙ (rw (w, i.invariant.3) f.1))
+    let w = c.flipped.ensures ∙ ap flipped (c.box_of.ensures ∙ t.1) in
+    c.put.ensures ∙ rw (w, c.loop-k.invariant) (flip_at a.boxes.now a.out.now c.loop-k.k t.0 k.whole c.requires.boxes_in_bounds)
 
 pub shape_of-out : goal.shape_of-out
-shape_of-out c = kept (goal.at.shape_of-out c).At-loop-left
+shape_of-out c = kept (goal.at.shape_of-out c).At-loop-k
 
 pub returns : goal.returns
-returns c = let g = flipped_length c.args.boxes.now (accepted_all_boxes _ c.requires.boxes_value).whole in
-    let e : c.loop-left.at ≡ length c.args.boxes.now = omega (arith, c.loop-left.invariant.0) in
-    c.loop-left.invariant.3 ∙ rw (e, take_all (length c.args.boxes.now) (flipped_numbers c.args.boxes.now) (omega arith))
+returns c = let l = c.args.boxes.now in
+    let w = (accepted_all_boxes _ c.requires.boxes_value).whole in
+    let g = flipped_length l w in
+    let n = arrays (goal.at.returns c).At-loop-k in
+    let e : 5 * c.loop-k.k ≡ length l = omega (arith, c.loop-k.auto.k-end, c.loop-k-test.false) in
+    c.loop-k.invariant ∙ rw (e, take_all (length l) (flipped_numbers l) (omega arith))

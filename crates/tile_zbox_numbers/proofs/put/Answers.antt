@@ -20,4 +20,4 @@ pub shape_of-out : goal.shape_of-out
 shape_of-out c = simp length-set
 
 pub returns : goal.returns
-returns c = five_sets c.args.out.now c.args.at _ _ _ _ _
+returns c = rw c.from.ensures (five_sets c.args.out.now c.args.at _ _ _ _ _)

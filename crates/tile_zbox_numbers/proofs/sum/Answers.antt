@@ -1,57 +1,50 @@
--- `tile_zbox_numbers::sum` meets its contract: the total and the lengths of the boxes from `at` on are the whole sum, which fits.
+-- `tile_zbox_numbers::sum` meets its contract: the total and the lengths of the boxes from here on are those of all.
 use mathlib.Core.Path.{◌≡◌, ap, ◌∙◌}
-use Prim.Native.Nat.{◌+◌, ◌-◌}
+use mathlib.Core.List.{[]}
+use Prim.Native.Nat.{◌<◌}
 use native.Mathlib.Omega.{arith}
-use lib.ListN.{drop}
-use Rattle.tile_zbox.specs.Box.{IsBox, box_length}
-use Rattle.tile_zbox_numbers.specs.Accepted.{Fine, fine_first, zoom_at, accepted_all_boxes}
-use Rattle.tile_zbox_numbers.specs.Boxes.{box_from, boxes_from, sum_lengths}
-use Rattle.tile_zbox_numbers.specs.Fives.{boxes_step, boxes_end}
-use Rattle.tile_zbox_numbers.specs.Lengths.{sum_fits, sum_step, sum_none}
+use lib.ListN.{length, get_or}
+use Rattle.tile_zbox.specs.declared.TileZBox.{TileZBox}
+use Rattle.tile_zbox.specs.Box.{no_box, box_length}
+use Rattle.tile_zbox_numbers.specs.Accepted.{accepted_all_boxes}
+use Rattle.tile_zbox_numbers.specs.Arrays.{turn_of, past_of, shallow_at, fine_at, sum_from}
+use Rattle.tile_zbox_numbers.specs.Boxes.{box_from, boxes_of, sum_lengths}
+use Rattle.tile_zbox_numbers.specs.Lengths.{sum_fits, sum_none}
 use Rattle.tile_zbox_numbers.proofs.sum.Goals as goal
-use Rattle.tile_zbox_numbers.proofs.sum.Goals.{After-count-total, In-loop-left}
+use Rattle.tile_zbox_numbers.proofs.sum.Goals.{In-loop-five, After-count-total}
 
-pub loop-left-init : goal.loop-left-init
-loop-left-init c = (omega arith, (accepted_all_boxes _ c.requires).fine, omega arith)
+-- the turn's array is the box at its place
+turn : (c : In-loop-five)
+    → (c.loop-five.five-index < length (boxes_of c.args.boxes.now))
+    × (box_from (get_or c.fives-five-items.result.now c.loop-five.five-index []) ≡ get_or (boxes_of c.args.boxes.now) c.loop-five.five-index no_box)
+turn c = turn_of _ _ c.loop-five.five-index c.fives-five-items.ensures c.loop-five-test.true
 
-pub box_at-requires : goal.box_at-requires
-box_at-requires c = record { at_in_bounds = omega arith; at_bound = zoom_at c.loop-left.left c.loop-left.at _ c.loop-left-test.true c.loop-left.invariant.1.shallow }
-
--- the next box, and those after it
-next : (c : In-loop-left)
-    → IsBox (box_from (drop c.loop-left.at c.args.boxes.now))
-    × Fine (boxes_from (c.loop-left.left - 1) (drop (c.loop-left.at + 5) c.args.boxes.now))
-next c =
-    let l = c.args.boxes.now in
-    let i = c.loop-left in
-    fine_first _ _ (rw (boxes_step i.left i.at l c.loop-left-test.true) at i.invariant.1)
-
-sum_on : (c : After-count-total)
-    → sum_lengths (boxes_from c.loop-left.left
-    (drop c.loop-left.at c.args.boxes.now))
-    ≡ c.count-total.result + sum_lengths
-    (boxes_from (c.loop-left.left - 1)
-    (drop (c.loop-left.at + 5) c.args.boxes.now))
-sum_on c =
-    let l = c.args.boxes.now in
-    let i = c.loop-left in
-    let e = c.count-total.ensures ∙ ap box_length c.box_at.ensures in
-    ap sum_lengths (boxes_step i.left i.at l c.loop-left-test.true) ∙ (sum_step (box_from (drop i.at l)) _ ∙ rw e)
+pub box_of-requires : goal.box_of-requires
+box_of-requires c = let t = turn (goal.at.box_of-requires c).In-loop-five in
+    let f = (accepted_all_boxes _ c.requires).fine in
+    omega (arith, ap (λ (b : TileZBox). b.zoom) t.1, shallow_at (boxes_of c.args.boxes.now) c.loop-five.five-index f.shallow t.0)
 
 pub count-total-requires : goal.count-total-requires
-count-total-requires c = rw c.box_at.ensures (next (goal.at.count-total-requires c).In-loop-left).0
+count-total-requires c = let t = turn (goal.at.count-total-requires c).In-loop-five in
+    let f = (accepted_all_boxes _ c.requires).fine in
+    rw (c.box_of.ensures ∙ t.1) (fine_at (boxes_of c.args.boxes.now) c.loop-five.five-index f t.0)
+
+-- the box's length is the first of those that are left
+length_is : (c : After-count-total) → c.count-total.result ≡ box_length (get_or (boxes_of c.args.boxes.now) c.loop-five.five-index no_box)
+length_is c = let t = turn_of _ _ c.loop-five.five-index c.fives-five-items.ensures c.loop-five-test.true in
+    c.count-total.ensures ∙ ap box_length (c.box_of.ensures ∙ t.1)
 
 pub overflow_add-total : goal.overflow_add-total
-overflow_add-total c = let n = sum_on (goal.at.overflow_add-total c).After-count-total in
-    let f = sum_fits c.args.boxes.now c.requires in
-    omega arith
+overflow_add-total c = let here = goal.at.overflow_add-total c in
+    let s = sum_from (boxes_of c.args.boxes.now) c.loop-five.five-index (turn here.In-loop-five).0 in
+    omega (arith, length_is here.After-count-total, c.loop-five.invariant, sum_fits _ c.requires)
 
-pub loop-left-preserved : goal.loop-left-preserved
-loop-left-preserved c = let n = sum_on (goal.at.loop-left-preserved c).After-count-total in
-    (omega arith, (next (goal.at.loop-left-preserved c).In-loop-left).1, omega arith)
+pub loop-five-preserved : goal.loop-five-preserved
+loop-five-preserved c = let here = goal.at.loop-five-preserved c in
+    let s = sum_from (boxes_of c.args.boxes.now) c.loop-five.five-index (turn here.In-loop-five).0 in
+    omega (arith, length_is here.After-count-total, c.loop-five.invariant)
 
 pub returns : goal.returns
-returns c = let i = c.loop-left in
-    let e = ap sum_lengths (boxes_end i.left i.at c.args.boxes.now (omega arith)) ∙ sum_none in
-    let t = i.invariant.2 in
-    omega arith
+returns c =
+    let p = past_of _ _ c.loop-five.five-index c.fives-five-items.ensures c.loop-five-test.false in
+    omega (arith, c.loop-five.invariant, ap sum_lengths p ∙ sum_none)

@@ -1,12 +1,12 @@
 -- `located`: the two tests, one after the other.
-use mathlib.Core.Path.{sym, ◌∙◌, subst}
+use mathlib.Core.Path.{refl, sym, ◌∙◌, subst}
 use Rattle.work.specs.Pairs.{located_no_tile, located_not_settled, located_fine}
 use Rattle.work.specs.Steps.{KeyedBoth}
 use Rattle.std.proofs.Common.{ap, not}
 use Rattle.work.proofs.located.Goals as goal
 
 pub returns-then-not-keyed : goal.returns-then-not-keyed
-returns-then-not-keyed c = located_no_tile c.keyed.ensures (ap not c.if-not-keyed.true) c.number.ensures
+returns-then-not-keyed c = located_no_tile c.keyed.ensures (ap not c.if-not-keyed.true) refl
 
 pub both_settled-requires : goal.both_settled-requires
 both_settled-requires c = (
@@ -16,7 +16,7 @@ both_settled-requires c = (
 
 pub returns-then-not-both_settled : goal.returns-then-not-both_settled
 returns-then-not-both_settled c = let k = c.keyed in
-    located_not_settled k.ensures (ap not c.if-not-keyed.false) c.both_settled.ensures (ap not c.if-not-both_settled.true) c.number-then-not-both_settled.ensures
+    located_not_settled k.ensures (ap not c.if-not-keyed.false) c.both_settled.ensures (ap not c.if-not-both_settled.true) refl
 
 pub returns : goal.returns
 returns c = let k = c.keyed in

@@ -1,11 +1,10 @@
 -- `write_simplified` hands the keys to the crate that does the work.
-use mathlib.Core.Path.{◌≡◌, refl, subst}
+use mathlib.Core.Path.{◌≡◌, subst}
 use mathlib.Core.List.{List}
 use Prim.Native.Nat.{ℕ}
-use native.Mathlib.Omega.{arith}
 use lib.ListN.{length}
 use Rattle.quadtree.specs.Lists.{sort_key, TileNumbers}
-use Rattle.work.specs.One.{count_in_memory, bit_at_most_1, merge_simplifies, simplify_simplifies, simplify_v1_simplifies}
+use Rattle.work.specs.One.{merge_simplifies, simplify_simplifies, simplify_v1_simplifies}
 use Rattle.work.specs.Work.{sorted_by}
 use Rattle.work.specs.declared.Simplification.{Simplification}
 use Rattle.work.proofs.write_simplified.Goals as goal
@@ -25,14 +24,8 @@ simplified_v1-requires c = asked c.args.which _ c.args.keys.now c.args.out.now c
 pub simplified-requires : goal.simplified-requires
 simplified-requires c = asked c.args.which _ c.args.keys.now c.args.out.now c.in-Simplify.is c.requires.tile_numbers
 
-pub overflow_mul-result : goal.overflow_mul-result
-overflow_mul-result c = omega (arith, count_in_memory c.merged-joined.ensures.listed, c.merged-joined.auto.out, c.requires.tile_numbers.1, c.requires.keys_len_bound)
-
-pub overflow_add-result : goal.overflow_add-result
-overflow_add-result c = omega (arith, count_in_memory c.merged-joined.ensures.listed, c.merged-joined.auto.out, c.requires.tile_numbers.1, c.requires.keys_len_bound, bit_at_most_1 c.merged-joined.result.changed)
-
 pub returns-in-Merge : goal.returns-in-Merge
-returns-in-Merge c = merge_simplifies c.merged-joined.result c.in-Merge.is c.merged-joined.ensures refl
+returns-in-Merge c = merge_simplifies c.merged-joined.result c.in-Merge.is c.merged-joined.ensures
 
 pub returns-in-SimplifyV1 : goal.returns-in-SimplifyV1
 returns-in-SimplifyV1 c = simplify_v1_simplifies c.in-SimplifyV1.is c.simplified_v1.ensures

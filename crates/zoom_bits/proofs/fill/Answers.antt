@@ -1,11 +1,11 @@
--- `zoom_bits::fill` meets its contract: the zooms below the loop's one stand in the front, and the rest is as it came.
+-- `zoom_bits::fill` meets its contract: the zooms below this one stand in the front, and the rest is as it came.
 use mathlib.Core.Path.{◌≡◌, refl, sym, ap, ◌∙◌}
 use mathlib.Core.Bool.{true}
 use mathlib.Core.List.{[], ◌∷◌, ◌++◌}
-use Prim.Native.Nat.{ℕ, suc, ◌<◌, ◌-◌}
+use Prim.Native.Nat.{ℕ, suc, ◌<◌}
 use native.Mathlib.Numerals.{add-one}
 use native.Mathlib.Omega.{arith}
-use lib.ListN.{length, drop, length-set, length-append}
+use lib.ListN.{length, drop, length-append}
 use Rattle.zoom_bits.specs.Bits.{has_bit, those, last_zoom}
 use Rattle.zoom_bits.specs.Passing.{those_with, those_without, those_room, front_with}
 use Rattle.zoom_bits.proofs.fill.Goals as goal
@@ -14,7 +14,7 @@ use Rattle.zoom_bits.proofs.fill.Goals.{After-has}
 
 pub loop-z-init : goal.loop-z-init
 unfolding those
-loop-z-init c = (omega arith, (refl, (refl, refl)))
+loop-z-init c = (refl, refl)
 
 -- a zoom of the set has a place
 room : (c : After-has) → c.has.result ≡ true → c.loop-z.k < length c.args.out.now
@@ -25,40 +25,19 @@ room c h =
 pub bounds-out-k : goal.bounds-out-k
 bounds-out-k c = omega (arith, room (goal.at.bounds-out-k c).After-has c.if-has.true)
 
-pub overflow_add-k : goal.overflow_add-k
-overflow_add-k c = omega (arith, room (goal.at.overflow_add-k c).After-has c.if-has.true)
-
-pub overflow_add-z : goal.overflow_add-z
-overflow_add-z c = omega arith
-
-pub loop-z-smaller : goal.loop-z-smaller
-loop-z-smaller c = omega arith
-
 pub loop-z-preserved : goal.loop-z-preserved
 loop-z-preserved c = let has = has_bit c.args.set in
     let z = c.loop-z.z in
     let k = c.loop-z.k in
     let memory = c.args.out.now in
-    let inv = c.loop-z.invariant.1 in (
-      omega arith,
-      rw add-one
-          (elim c.if-has.branch [
-            | then-has w ↦
-                let h : has z ≡ true = sym c.has.ensures ∙ w.if-has.true in (
-                  ap length w.out-is ∙ (simp length-set inv.0),
-                  (
-                    omega (arith, w.k-is, inv.1.0, ap length (those_with has z h), length-append (those has z) (z ∷ [])),
-                    w.out-is ∙ (front_with has z k _ memory h inv.1.0 inv.1.1 (room (goal.at.loop-z-preserved c).After-has w.if-has.true) ∙ ap (λ (n : ℕ). those has (suc z) ++ drop n memory) (sym (w.k-is ∙ add-one k))),
-                  ),
-                )
-            | else-has w ↦ rw (those_without has z (sym c.has.ensures ∙ w.if-has.false), w.out-is, w.k-is) inv
-          ]),
-    )
-
-pub shape_of-out : goal.shape_of-out
-shape_of-out c = c.loop-z.invariant.1.0
-
-pub returns : goal.returns
-returns c = let inv = c.loop-z.invariant.1.1 in
-    let e : c.loop-z.z ≡ suc last_zoom = omega arith in
-    rw e at (rw inv.0 at inv.1)
+    let inv = c.loop-z.invariant in
+    rw add-one
+    (elim c.if-has.branch [
+      | then-has w ↦
+          let h : has z ≡ true = sym c.has.ensures ∙ w.if-has.true in (
+            omega (arith, w.k-is, inv.0, ap length (those_with has z h), length-append (those has z) (z ∷ [])),
+            w.out-is ∙ (front_with has z k _ memory h inv.0 inv.1 (room (goal.at.loop-z-preserved c).After-has w.if-has.true)
+                ∙ ap (λ (n : ℕ). those has (suc z) ++ drop n memory) (sym (w.k-is ∙ add-one k))),
+          )
+      | else-has w ↦ rw (those_without has z (sym c.has.ensures ∙ w.if-has.false), w.out-is, w.k-is) inv
+    ])

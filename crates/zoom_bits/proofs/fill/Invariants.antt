@@ -1,13 +1,9 @@
--- `zoom_bits::fill` meets its contract: the zooms below the loop's one stand in the front, and the rest is as it came.
+-- `zoom_bits::fill` meets its contract: the zooms below this one stand in the front, and the rest is as it came.
 use mathlib.Core.Path.{◌≡◌}
 use mathlib.Core.List.{◌++◌}
-use Prim.Native.Nat.{suc, ◌≤◌, ◌-◌}
 use lib.ListN.{length, drop}
-use Rattle.zoom_bits.specs.Bits.{has_bit, those, last_zoom}
+use Rattle.zoom_bits.specs.Bits.{has_bit, those}
 use Rattle.zoom_bits.proofs.fill.Given as goal
 
 abbrev pub invariant-loop-z : goal.invariant-loop-z
-invariant-loop-z l = (l.z ≤ suc last_zoom) × ((length l.out ≡ length l.initial.out) × ((l.k ≡ length (those (has_bit l.set) l.z)) × (l.out ≡ those (has_bit l.set) l.z ++ drop l.k l.initial.out)))
-
-abbrev pub decreases-loop-z : goal.decreases-loop-z
-decreases-loop-z l = suc last_zoom - l.z
+invariant-loop-z l = (l.k ≡ length (those (has_bit l.set) l.z)) × (l.out ≡ those (has_bit l.set) l.z ++ drop l.k l.initial.out)

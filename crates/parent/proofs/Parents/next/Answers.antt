@@ -1,8 +1,7 @@
--- `parent::Parents::next` meets its contract: a case for each case of the cursor.
+-- `parent::Parents::next` meets its contract: what `check` lets through is a tile of the map.
+use Rattle.errors.specs.Laws.{check_fine}
+use Rattle.tile.specs.OnMap.{accepted_on_map}
 use Rattle.parent.proofs.Parents.next.Goals as goal
 
-pub returns-in-Some : goal.returns-in-Some
-returns-in-Some c = rw c.in-Some.is c.after.ensures
-
-pub returns-in-None : goal.returns-in-None
-returns-in-None c = rw c.in-None.is
+pub above-current-requires : goal.above-current-requires
+above-current-requires c = accepted_on_map _ _ _ (check_fine c.in_ok-check.was c.check.ensures)

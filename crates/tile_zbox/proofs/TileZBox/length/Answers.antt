@@ -1,14 +1,6 @@
--- `tile_zbox::TileZBox::length` meets its contract: what `check` says decides.
-use mathlib.Core.Path.{sym}
-use Rattle.errors.specs.Laws.{check_fine, check_refused, refused_answer}
-use Rattle.tile_zbox.specs.Laws.{accepted_box}
+-- `tile_zbox::TileZBox::length` meets its contract: what `check` accepts is a box.
+use Rattle.tile_zbox.specs.Laws.{checked_box}
 use Rattle.tile_zbox.proofs.TileZBox.length.Goals as goal
 
 pub count-requires : goal.count-requires
-count-requires c = accepted_box _ (check_fine c.in-Fine.is c.check.ensures)
-
-pub returns-in-Fine : goal.returns-in-Fine
-returns-in-Fine c = rw ((check_fine c.in-Fine.is c.check.ensures), c.count.ensures)
-
-pub returns-in-Refused : goal.returns-in-Refused
-returns-in-Refused c = refused_answer c.in-Refused.why _ _ (sym (check_refused c.in-Refused.is c.check.ensures))
+count-requires c = checked_box _ c.in_ok-check.was c.check.ensures

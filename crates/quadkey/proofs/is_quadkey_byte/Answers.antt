@@ -1,9 +1,0 @@
--- `quadkey::is_quadkey_byte` meets its contract: its two tests are those of `is_digit`.
-use borrow.Author.Tests.{le-leb, lt-leb}
-use Rattle.quadkey.proofs.is_quadkey_byte.Goals as goal
-
-pub returns-then-b-ge48 : goal.returns-then-b-ge48
-returns-then-b-ge48 c = rw (le-leb _ _ c.if-b-ge48.true)
-
-pub returns-else-b-ge48 : goal.returns-else-b-ge48
-returns-else-b-ge48 c = rw (lt-leb _ _ c.if-b-ge48.false)

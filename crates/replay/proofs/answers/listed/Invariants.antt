@@ -1,9 +1,0 @@
--- `replay::answers::listed` is safe and ends: a walk over the lent memory.
-use Rattle.std.proofs.Common.{◌-◌, length}
-use Rattle.replay.proofs.answers.listed.Given as goal
-
-abbrev pub invariant-loop-i : goal.invariant-loop-i
-invariant-loop-i l = Unit
-
-abbrev pub decreases-loop-i : goal.decreases-loop-i
-decreases-loop-i l = length l.out - l.i

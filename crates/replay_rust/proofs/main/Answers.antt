@@ -1,1 +1,0 @@
--- `replay_rust::main` is safe and ends: the turns fall.
