@@ -82,7 +82,8 @@ one_place (a ∷ []) v e = refl
 one_place (a ∷ (b ∷ out)) v e = absurd (omega arith)
 
 -- the loop of `fill`, in one place: the first k quarters of a list stand written
-module _ (order : Family) (d x y z : ℕ) (memory : List ℕ) {q k : ℕ} {out : List ℕ} (size : q ≡ 4 ^ d) (whole : 4 * q ≡ length memory) (most : k ≤ 4)
+module _ (order : Family) (d x y z : ℕ) (memory : List ℕ) {q k : ℕ} {out : List ℕ}
+    (size : q ≡ 4 ^ d) (whole : 4 * q ≡ length memory) (most : k ≤ 4)
     (held : out ≡ quarters (child_entries order d x y z) (family_of order) q k memory) where
   each : (i : ℕ) → length (child_entries order d x y z i) ≡ q
   each i = child_length order d x y z i ∙ sym size

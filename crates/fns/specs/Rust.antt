@@ -19,7 +19,8 @@ rust_valid x y z =
 -- `parent`: one step up where no extra steps are left; else a call one zoom up, with one step fewer
 unfoldable pub rust_parent : ℕ → ℕ → ℕ → ℕ → Run (Option Tile)
 rust_parent x y z zero =
-    let up = shift_down 32 x 1 then λ a. shift_down 32 y 1 then λ b. minus z 1 then λ above. rust_new a b above then λ t. returns (Some t) in
+    let up = shift_down 32 x 1 then λ a. shift_down 32 y 1 then λ b. minus z 1 then λ above. rust_new a b above
+    then λ t. returns (Some t) in
     cond (eqb z 0) (returns None) up
 rust_parent x y z (suc n) = shift_down 32 x 1 then λ a. shift_down 32 y 1 then λ b. minus z 1 then λ above. rust_parent a b above n
 

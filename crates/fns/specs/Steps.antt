@@ -126,5 +126,6 @@ module _ (x y z n number : ℕ) (t : Tile) (room : List ℕ)
       (a.0, a.1, rw (v, d, drop_replicate (1 + n) max_digits, f))
 
 -- what `parent` answers where it is refused
-pub refused_value : (x y z n : ℕ) (why : Refusal) → number_of why ≡ parent_refusal x y z n → refused_as why no_ancestor ≡ parent_given x y z n
+pub refused_value : (x y z n : ℕ) (why : Refusal)
+    → number_of why ≡ parent_refusal x y z n → refused_as why no_ancestor ≡ parent_given x y z n
 refused_value x y z n why e = refused_answer why _ _ (sym e)

@@ -1,6 +1,6 @@
-// `parent` as document 01 names it: a call for each step up, one level fewer at each. All that it finds goes to lent places: a struct would be
-// copied on from level to level. Its answer is one number, and no Result: with one the compiler makes no loop of the calls, and 29 steps took
-// 279 ns in a trial where they take 49.
+// `parent` as document 01 names it: a call for each step up, one level fewer at each. All that it finds goes to lent places:
+// a struct would be copied on from level to level. Its answer is one number, and no Result: with one the compiler makes no
+// loop of the calls, and 29 steps took 279 ns in a trial where they take 49.
 ghost use Rattle.std.specs.Prelude.{◌≡◌, ◌+◌, length};
 ghost use Rattle.constants.specs.Limits.{max_digits};
 ghost use Rattle.quadkey.specs.Key.{digit_at};
