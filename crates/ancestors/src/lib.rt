@@ -34,7 +34,7 @@ fn uncovered_codes(locations: &mut [u64], out: &mut [u64], m: u8) -> usize
     ensures { Uncovers m locations.old out.new result }
 {
     sort::sort_into(locations, out);
-    locations.copy_from_slice(out);
+    sort::copy(out, locations);
     let tops = settle::settle(locations, NO_ZOOM);
     uncovered(out, &locations[..tops], m)
 }

@@ -18,7 +18,7 @@ use Rattle.ids.specs.Entry.{is_entry}
 use Rattle.settled.specs.Answers.{is_settled_of}
 use Rattle.settled.specs.Settled.{is_settled}
 use Rattle.tile_list.specs.List.{list_refusal, filled, list_answer}
-use Rattle.work.specs.Work.{locations_of, overlay_items, pair_tests, told_as, outcome_of, count_of, work_of, told_left}
+use Rattle.work.specs.Work.{locations_of, overlay_items, pair_tests, told_as, outcome_of, count_of, told_left}
 use Rattle.work.specs.declared.Outcome.{Outcome}
 use Rattle.work.specs.declared.Overlay.TheVariants.{Union, Common, Difference}
 use Rattle.work.specs.declared.Work.TheVariants.{Tested, Overlaid}
@@ -68,10 +68,10 @@ module _ (a b memory : List ℕ) where
       pick zero f = rw (f refl) (done (12 when ltb (length memory) both))
       pick (suc n) f = refl
 
-  pub union_door : work_of (Overlaid Union) 0 a b memory ≡ union_of a b memory
+  pub union_door : count_of (outcome_of (Overlaid Union) 0 a b memory) ≡ union_of a b memory
   union_door = joined (overlay_items Union (locations_of a) (locations_of b)) (union_entries a b) (union_entries_lem a b)
 
-  pub common_door : work_of (Overlaid Common) 0 a b memory ≡ common_of a b memory
+  pub common_door : count_of (outcome_of (Overlaid Common) 0 a b memory) ≡ common_of a b memory
   common_door = joined (overlay_items Common (locations_of a) (locations_of b)) (common_entries a b) (common_entries_lem a b)
 
   -- a place for each entry of the result
@@ -90,7 +90,7 @@ module _ (a b memory : List ℕ) where
       pick zero f = rw (f refl) (done (short items memory))
       pick (suc n) f = refl
 
-  pub difference_door : work_of (Overlaid Difference) 0 a b memory ≡ difference_of a b memory
+  pub difference_door : count_of (outcome_of (Overlaid Difference) 0 a b memory) ≡ difference_of a b memory
   difference_door = remaining (overlay_items Difference (locations_of a) (locations_of b)) (difference_entries a b) (left_entries_lem a b)
 
 -- a list that is tested: the empty second list is never too long

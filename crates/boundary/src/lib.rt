@@ -4,9 +4,8 @@
 
 ghost use Rattle.std.specs.Prelude.{◌≡◌, ◌+◌, ◌*◌, ◌^◌, ◌<◌, ◌≤◌};
 ghost use Rattle.constants.specs.Limits.{max_entries};
-ghost use Rattle.errors.specs.Cases.{left};
 ghost use Rattle.work.specs.Steps.{InScratch};
-ghost use Rattle.work.specs.Work.{outcome_of, work_of, told_left};
+ghost use Rattle.work.specs.Work.{outcome_of, told_left};
 
 use constants::MAX_ENTRIES;
 use errors::Refusal;
@@ -45,15 +44,8 @@ enum Rung {
     Longest,
 }
 
-// A work whose value is the count of the answer's entries.
-pub fn counted(a: &[u64], b: &[u64], work: Work, m: u8, out: &mut [u64]) -> Result<usize, Refusal>
-    ensures { left result out.new ≡ work_of work m a.now b.now out.old }
-{
-    Ok(run(a, b, work, m, out)?.count)
-}
-
 // What the work says, and the answer's entries at the front of `out`.
-// The work is an enum and no closure: the promises `outcome_of` and `work_of` and their theorems speak of its cases.
+// The work is an enum and no closure: the promise `outcome_of` and its theorems speak of its cases.
 pub fn run(a: &[u64], b: &[u64], work: Work, m: u8, out: &mut [u64]) -> Result<Outcome, Refusal>
     ensures { told_left result out.new ≡ outcome_of work m a.now b.now out.old }
 {
@@ -82,8 +74,8 @@ fn need(work: Work, n: usize, k: usize) -> usize
     }
 }
 
-// From rung to rung until the scratch is long enough. Each scratch stands in a function of its own. The compiler joins such a function to
-// its caller, but not to a caller that calls itself: so a shorter list does not pay for the stack of a longer one.
+// From rung to rung until the scratch is long enough. Each scratch stands in an instance of `in_scratch` of its own. The compiler joins
+// such a function to its caller, but not to a caller that calls itself: so a shorter list does not pay for the stack of a longer one.
 fn climb(
     a: &[u64],
     b: &[u64],

@@ -22,12 +22,16 @@ pub fn feed(byte: u8, x: &mut u32, y: &mut u32, count: &mut u8, bad: &mut u8) ->
         count: *count,
         bad: *bad == 1,
     };
-    let fed = reader.feed(byte);
-    *x = reader.x;
-    *y = reader.y;
-    *count = reader.count;
-    *bad = reader.bad as u8;
-    errors::check_number(fed)
+    match reader.feed(byte) {
+        Ok(()) => {
+            *x = reader.x;
+            *y = reader.y;
+            *count = reader.count;
+            *bad = reader.bad as u8;
+            0
+        }
+        Err(why) => errors::number(why),
+    }
 }
 
 pub fn tile(x: u32, y: u32, count: u8, bad: u8, tx: &mut u32, ty: &mut u32, tz: &mut u8) -> u8

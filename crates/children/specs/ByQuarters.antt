@@ -1,9 +1,9 @@
 -- How a list of descendants fills up quarter by quarter.
-use Rattle.std.specs.Prelude.{◌≡◌, refl, List, [], ◌∷◌, ◌++◌, ℕ, zero, suc, ◌+◌, ◌-◌, ◌*◌, ◌/◌, ◌^◌, ◌≤◌, ◌<◌, length, take, drop, get_or, set}
+use Rattle.std.specs.Prelude.{◌≡◌, refl, Bool, List, [], ◌∷◌, ◌++◌, ℕ, zero, suc, ◌+◌, ◌-◌, ◌*◌, ◌/◌, ◌^◌, ◌≤◌, ◌<◌}
+use Rattle.std.specs.Prelude.{length, take, drop, get_or, set}
 use Rattle.std.proofs.Common.{sym, ap, ◌∙◌, append_assoc, append-nil, pow-suc, mul-le-mul_right, add-one, arith, length-append, length-drop, take-suc, take_at, drop_at, drop-drop, length-take-le}
 use Rattle.std.proofs.Math.Seq.{take-length, drop-length}
 use borrow.Rule.Slice.PartMut.{put_mid}
-use Rattle.children.specs.declared.Family.{Family}
 use Rattle.children.specs.Children.{family_of, gather, descendants}
 use Rattle.children.specs.Family.{family_four, child_entries, child_length, children_gathered}
 use Rattle.children.specs.Gathered.{gather_append, gather_one, gather_length}
@@ -82,7 +82,7 @@ one_place (a ∷ []) v e = refl
 one_place (a ∷ (b ∷ out)) v e = absurd (omega arith)
 
 -- the loop of `fill`, in one place: the first k quarters of a list stand written
-module _ (order : Family) (d x y z : ℕ) (memory : List ℕ) {q k : ℕ} {out : List ℕ}
+module _ (order : Bool) (d x y z : ℕ) (memory : List ℕ) {q k : ℕ} {out : List ℕ}
     (size : q ≡ 4 ^ d) (whole : 4 * q ≡ length memory) (most : k ≤ 4)
     (held : out ≡ quarters (child_entries order d x y z) (family_of order) q k memory) where
   each : (i : ℕ) → length (child_entries order d x y z i) ≡ q

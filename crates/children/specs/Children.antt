@@ -1,12 +1,10 @@
 -- The descendants of a tile, in the order of document 01.
-use Rattle.std.specs.Prelude.{List, [], ◌∷◌, ◌++◌, ℕ, zero, suc, ◌+◌, ◌-◌, ◌*◌, ◌/◌, ◌%◌, ltb}
+use Rattle.std.specs.Prelude.{Bool, true, false, List, [], ◌∷◌, ◌++◌, ℕ, zero, suc, ◌+◌, ◌-◌, ◌*◌, ◌/◌, ◌%◌, ltb}
 use Rattle.constants.specs.Limits.{max_zoom}
 use Rattle.errors.specs.Answer.{Lent, written, ◌when◌, ◌else◌}
 use Rattle.ids.specs.Entry.{entries_of}
 use Rattle.tile.specs.OnMap.{tile_at, tile_refusal}
 use Rattle.tile.specs.declared.Tile.{Tile}
-use Rattle.children.specs.declared.Family.{Family}
-use Rattle.children.specs.declared.Family.TheVariants.{ZOrder, Clockwise}
 
 -- the order within a family, by quadkey digits
 abbrev pub clockwise : List ℕ
@@ -30,7 +28,7 @@ abbrev pub children_of : List ℕ → ℕ → ℕ → ℕ → ℕ → List ℕ �
 children_of family x y z target memory =
     written (1 when ltb max_zoom target else tile_refusal x y z) (entries_of (descendants family (target - z) x y z)) memory
 
--- the order of the code's family
-abbrev pub family_of : Family → List ℕ
-family_of ZOrder = z_order
-family_of Clockwise = clockwise
+-- the order of the code's family, clockwise or not
+abbrev pub family_of : Bool → List ℕ
+family_of false = z_order
+family_of true = clockwise

@@ -5,8 +5,6 @@ use Rattle.std.proofs.lemmas.List.{length-map}
 use Rattle.constants.specs.Limits.{max_zoom}
 use Rattle.errors.specs.Answer.{◌when◌, ◌else◌}
 use Rattle.tile.specs.OnMap.{OnMap, tile_refusal, too_deep_lem}
-use Rattle.children.specs.declared.Family.{Family}
-use Rattle.children.specs.declared.Family.TheVariants.{ZOrder, Clockwise}
 use Rattle.children.specs.Children.{family_of, gather, descendants}
 use Rattle.children.specs.Gathered.{gather_length, entries_gather}
 use Rattle.ids.specs.Entry.{entries_of}
@@ -18,35 +16,35 @@ descend_length family e (suc d) x y z =
     gather_length _ (4 ^ d) family (λ q. descend_length family e d (2 * x + q % 2) (2 * y + q / 2) (suc z))
     ∙ rw (e, pow-suc 4 d) (mul_comm 4 (4 ^ d))
 
-pub family_four : (order : Family) → length (family_of order) ≡ 4
-family_four ZOrder = refl
-family_four Clockwise = refl
+pub family_four : (order : Bool) → length (family_of order) ≡ 4
+family_four false = refl
+family_four true = refl
 
-pub children_length : (order : Family) (d x y z : ℕ) → length (entries_of (descendants (family_of order) d x y z)) ≡ 4 ^ d
+pub children_length : (order : Bool) (d x y z : ℕ) → length (entries_of (descendants (family_of order) d x y z)) ≡ 4 ^ d
 children_length order d x y z =
     length-map (descendants (family_of order) d x y z) _ ∙ descend_length (family_of order) (family_four order) d x y z
 
 -- the digit of a family's child
-pub digit_small : (order : Family) (k : ℕ) → get_or (family_of order) k 0 < 4
-digit_small ZOrder zero = omega arith
-digit_small ZOrder (suc zero) = omega arith
-digit_small ZOrder (suc (suc zero)) = omega arith
-digit_small ZOrder (suc (suc (suc zero))) = omega arith
-digit_small ZOrder (suc (suc (suc (suc k)))) = omega arith
-digit_small Clockwise zero = omega arith
-digit_small Clockwise (suc zero) = omega arith
-digit_small Clockwise (suc (suc zero)) = omega arith
-digit_small Clockwise (suc (suc (suc zero))) = omega arith
-digit_small Clockwise (suc (suc (suc (suc k)))) = omega arith
+pub digit_small : (order : Bool) (k : ℕ) → get_or (family_of order) k 0 < 4
+digit_small false zero = omega arith
+digit_small false (suc zero) = omega arith
+digit_small false (suc (suc zero)) = omega arith
+digit_small false (suc (suc (suc zero))) = omega arith
+digit_small false (suc (suc (suc (suc k)))) = omega arith
+digit_small true zero = omega arith
+digit_small true (suc zero) = omega arith
+digit_small true (suc (suc zero)) = omega arith
+digit_small true (suc (suc (suc zero))) = omega arith
+digit_small true (suc (suc (suc (suc k)))) = omega arith
 
 -- the entries of one child's descendants
-abbrev pub child_entries : Family → ℕ → ℕ → ℕ → ℕ → ℕ → List ℕ
+abbrev pub child_entries : Bool → ℕ → ℕ → ℕ → ℕ → ℕ → List ℕ
 child_entries order d x y z q = entries_of (descendants (family_of order) d (2 * x + q % 2) (2 * y + q / 2) (suc z))
 
-pub child_length : (order : Family) (d x y z q : ℕ) → length (child_entries order d x y z q) ≡ 4 ^ d
+pub child_length : (order : Bool) (d x y z q : ℕ) → length (child_entries order d x y z q) ≡ 4 ^ d
 child_length order d x y z q = children_length order d (2 * x + q % 2) (2 * y + q / 2) (suc z)
 
-pub children_gathered : (order : Family) (d x y z : ℕ)
+pub children_gathered : (order : Bool) (d x y z : ℕ)
     → entries_of (descendants (family_of order) (suc d) x y z) ≡ gather (child_entries order d x y z) (family_of order)
 unfolding descendants
 children_gathered order d x y z = entries_gather _ (family_of order)

@@ -1,7 +1,7 @@
 // The descendants of a tile at a deeper zoom, as list entries: clockwise in each family, or in the order of the quadkey's digits.
 #![tactic(auto)]
 
-ghost use Rattle.std.specs.Prelude.{◌≡◌, ◌+◌, ◌-◌, ◌^◌, ◌<◌, ◌≤◌, length, unwrap_or};
+ghost use Rattle.std.specs.Prelude.{Bool, true, false, ◌≡◌, ◌+◌, ◌-◌, ◌^◌, ◌<◌, ◌≤◌, length, unwrap_or};
 ghost use Rattle.constants.specs.Limits.{max_zoom};
 ghost use Rattle.errors.specs.Cases.{left};
 ghost use Rattle.tile.specs.OnMap.{OnMap};
@@ -11,22 +11,32 @@ ghost use Rattle.ids.specs.Entry.{entries_of};
 use constants::MAX_ZOOM;
 use errors::Refusal;
 
-// The order within a family.
-#[derive(Clone, Copy, Debug, PartialEq, Eq)]
-enum Family {
-    ZOrder,
-    Clockwise,
+// The order within a family. It is a type, so that the compiler makes a `fill` for each order.
+trait Family {
+    ghost order: { Bool };
+
+    // The quadkey digits of the four children, in order.
+    fn digits() -> [u32; 4]
+        ensures { result ≡ family_of order };
 }
 
-impl Family {
-    // The quadkey digits of the four children, in order.
-    fn digits(self) -> [u32; 4]
-        ensures { result ≡ family_of self }
-    {
-        match self {
-            Family::ZOrder => [0, 1, 2, 3],
-            Family::Clockwise => [0, 1, 3, 2],
-        }
+struct ZOrder;
+
+impl Family for ZOrder {
+    ghost order = { false };
+
+    fn digits() -> [u32; 4] {
+        [0, 1, 2, 3]
+    }
+}
+
+struct Clockwise;
+
+impl Family for Clockwise {
+    ghost order = { true };
+
+    fn digits() -> [u32; 4] {
+        [0, 1, 3, 2]
     }
 }
 
@@ -34,7 +44,7 @@ impl Family {
 pub fn children(x: u32, y: u32, z: u8, zoom: Option<u8>, out: &mut [u64]) -> Result<usize, Refusal>
     ensures { left result out.new ≡ children_of clockwise x y z (unwrap_or zoom (z + 1)) out.old }
 {
-    descend(Family::Clockwise, x, y, z, zoom, out)
+    descend::<Clockwise>(x, y, z, zoom, out)
 }
 
 // The same as `children`, each family by digits 0, 1, 2, 3.
@@ -47,25 +57,24 @@ pub fn children_zorder(
 ) -> Result<usize, Refusal>
     ensures { left result out.new ≡ children_of z_order x y z (unwrap_or zoom (z + 1)) out.old }
 {
-    descend(Family::ZOrder, x, y, z, zoom, out)
+    descend::<ZOrder>(x, y, z, zoom, out)
 }
 
 // The four children of a tile, by digits 0, 1, 2, 3.
 pub fn children1_zorder(x: u32, y: u32, z: u8, out: &mut [u64]) -> Result<usize, Refusal>
     ensures { left result out.new ≡ children_of z_order x y z (z + 1) out.old }
 {
-    descend(Family::ZOrder, x, y, z, None, out)
+    descend::<ZOrder>(x, y, z, None, out)
 }
 
-fn descend(
-    family: Family,
+fn descend<F: Family>(
     x: u32,
     y: u32,
     z: u8,
     zoom: Option<u8>,
     out: &mut [u64],
 ) -> Result<usize, Refusal>
-    ensures { left result out.new ≡ children_of (family_of family) x y z (unwrap_or zoom (z + 1)) out.old }
+    ensures { left result out.new ≡ children_of (family_of F.order) x y z (unwrap_or zoom (z + 1)) out.old }
 {
     if z > MAX_ZOOM {
         return Err(Refusal::Zoom);
@@ -80,7 +89,7 @@ fn descend(
     if out.len() < n {
         return Err(Refusal::Memory);
     }
-    fill(family, x, y, z, depth, &mut out[..n]);
+    fill::<F>(x, y, z, depth, &mut out[..n]);
     Ok(n)
 }
 
@@ -93,22 +102,20 @@ fn places(depth: u8) -> usize
 }
 
 // The descendants `depth` zooms down fill the list; each child's fill one quarter of it.
-fn fill(family: Family, x: u32, y: u32, z: u8, depth: u8, out: &mut [u64])
+fn fill<F: Family>(x: u32, y: u32, z: u8, depth: u8, out: &mut [u64])
     requires on_map { OnMap x y z }
     requires depth_bound { z + depth ≤ max_zoom }
     requires out_len { length out.old ≡ 4 ^ depth }
-    ensures { out.new ≡ entries_of (descendants (family_of family) depth x y z) }
+    ensures { out.new ≡ entries_of (descendants (family_of F.order) depth x y z) }
 {
     if depth == 0 {
         out[0] = ids::entry(x, y, z);
         return;
     }
     let quarter = out.len() / 4;
-    let digits = family.digits();
-    for (k, digit) in digits.iter().enumerate() {
+    for (k, digit) in F::digits().iter().enumerate() {
         let start = k * quarter;
-        fill(
-            family,
+        fill::<F>(
             2 * x + digit % 2,
             2 * y + digit / 2,
             z + 1,

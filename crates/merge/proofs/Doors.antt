@@ -9,7 +9,7 @@ use Rattle.errors.specs.Laws.{else_assoc}
 use Rattle.errors.specs.declared.Refusal.{Refusal}
 use Rattle.ids.specs.Entry.{is_entry}
 use Rattle.tile_list.specs.List.{list_refusal, places_refusal, filled, list_answer}
-use Rattle.work.specs.Work.{merge_changes, simplification_items, work_refusal, told_as, outcome_of, count_of, work_of, told_left}
+use Rattle.work.specs.Work.{merge_changes, simplification_items, work_refusal, told_as, outcome_of, count_of, told_left}
 use Rattle.work.specs.declared.Outcome.{Outcome}
 use Rattle.work.specs.declared.Simplification.{Simplification}
 use Rattle.work.specs.declared.Simplification.TheVariants.{Merge, SimplifyV1, Simplify}
@@ -41,10 +41,10 @@ counted which list items memory =
     pick zero = refl
     pick (suc n) = refl
 
-pub simplify_v1_door : (m : ℕ) (list memory : List ℕ) → work_of (Simplified SimplifyV1) m list [] memory ≡ simplify_v1_of list m memory
+pub simplify_v1_door : (m : ℕ) (list memory : List ℕ) → count_of (outcome_of (Simplified SimplifyV1) m list [] memory) ≡ simplify_v1_of list m memory
 simplify_v1_door m list memory = counted SimplifyV1 list (simplification_items SimplifyV1 m list) memory
 
-pub simplify_door : (m : ℕ) (list memory : List ℕ) → work_of (Simplified Simplify) m list [] memory ≡ simplify_of list m memory
+pub simplify_door : (m : ℕ) (list memory : List ℕ) → count_of (outcome_of (Simplified Simplify) m list [] memory) ≡ simplify_of list m memory
 simplify_door m list memory = counted Simplify list (simplification_items Simplify m list) memory
 
 -- what the work says of `merge`

@@ -1,9 +1,11 @@
 // The functions of merge.rs on lists of tiles in lent memory: one pass of merging, and both settlings.
 #![tactic(auto)]
 
-ghost use Rattle.std.specs.Prelude.{◌≡◌, unwrap_or};
+ghost use Rattle.std.specs.Prelude.{◌≡◌, [], unwrap_or};
 ghost use Rattle.errors.specs.Cases.{left};
 ghost use Rattle.merge.specs.Merge.{merged_left, merge_of, simplify_v1_of, simplify_of};
+ghost use Rattle.work.specs.Work.{count_of, outcome_of};
+ghost use Rattle.work.specs.declared.Work.TheVariants.{Simplified};
 
 use errors::Refusal;
 use work::{Simplification, Work};
@@ -39,13 +41,7 @@ pub fn simplify_v1(list: &[u64], minzoom: Option<u8>, out: &mut [u64]) -> Result
     ensures { left result out.new ≡ simplify_v1_of list.now (unwrap_or minzoom 0) out.old }
 {
     let m = minzoom.unwrap_or(0);
-    boundary::counted(
-        list,
-        &list[..0],
-        Work::Simplified(Simplification::SimplifyV1),
-        m,
-        out,
-    )
+    simplified(list, Simplification::SimplifyV1, m, out)
 }
 
 // Tiles under a listed ancestor are dropped; then families whose parent's zoom is at least the minimum become the parent, until none
@@ -55,11 +51,12 @@ pub fn simplify(list: &[u64], minzoom: Option<u8>, out: &mut [u64]) -> Result<us
     ensures { left result out.new ≡ simplify_of list.now (unwrap_or minzoom 0) out.old }
 {
     let m = minzoom.unwrap_or(0);
-    boundary::counted(
-        list,
-        &list[..0],
-        Work::Simplified(Simplification::Simplify),
-        m,
-        out,
-    )
+    simplified(list, Simplification::Simplify, m, out)
+}
+
+// How many entries a simplification leaves, and these at the front of `out`.
+fn simplified(list: &[u64], which: Simplification, m: u8, out: &mut [u64]) -> Result<usize, Refusal>
+    ensures { left result out.new ≡ count_of (outcome_of (Simplified which) m list.now [] out.old) }
+{
+    Ok(boundary::run(list, &list[..0], Work::Simplified(which), m, out)?.count)
 }

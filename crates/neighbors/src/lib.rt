@@ -27,12 +27,12 @@ pub enum Seam {
 
 impl Seam {
     // The squares in the order in which they are gone through.
-    fn squares(self) -> [u8; 8]
-        ensures { result ≡ order_of self }
+    fn squares(self) -> &'static [u8; 8]
+        ensures { result.now ≡ order_of self }
     {
         match self {
-            Seam::Cut => AROUND,
-            Seam::Wrapped => AROUND_WRAPPED,
+            Seam::Cut => &AROUND,
+            Seam::Wrapped => &AROUND_WRAPPED,
         }
     }
 }
@@ -87,7 +87,7 @@ fn count(seam: Seam, x: u32, y: u32, z: u8, end: u32) -> usize
     ensures { result ≡ length (gather (near_of seam x y z) (order_of seam)) }
 {
     let mut n = 0;
-    for s in seam.squares() {
+    for &s in seam.squares() {
         n += tiles(spot_at(seam, x, y, z, end, s));
     }
     n
@@ -108,7 +108,7 @@ fn fill(seam: Seam, x: u32, y: u32, z: u8, end: u32, out: &mut [u64])
         ++ drop (length (gather (near_of seam x y z) (order_of seam))) out.old }
 {
     let mut n = 0;
-    for s in seam.squares() {
+    for &s in seam.squares() {
         n = put(out, n, spot_at(seam, x, y, z, end, s));
     }
 }

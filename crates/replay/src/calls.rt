@@ -33,6 +33,8 @@ pub trait Player {
 pub fn replay<R: Input + Print + AllocGlobal, P: Player>(rt: &R, player: &mut P) -> io::Result<()> {
     let mut input = BufReader::new(rt.alloc(), rt.reader())?;
     let mut line = Vec::new(rt.alloc());
+    // Each line's numbers go to the front of the same room: to clear it for each would cost more than the most calls do.
+    let mut room = [0; NUMBERS];
     let mut log = Log { rt, calls: 0 };
     // A list ends long before the turns do.
     for _ in 0..u64::MAX {
@@ -40,7 +42,7 @@ pub fn replay<R: Input + Print + AllocGlobal, P: Player>(rt: &R, player: &mut P)
         if input.by_ref().take(LONGEST).read_until(b'\n', &mut line)? == 0 {
             break;
         }
-        log.line(&line, player)?;
+        log.line(&line, &mut room, player)?;
     }
     log.count()
 }
@@ -54,15 +56,14 @@ struct Log<'a, R> {
 
 impl<R: Print + Alloc> Log<'_, R> {
     // A line without its newline is cut off, and no call.
-    fn line<P: Player>(&mut self, line: &[u8], player: &mut P) -> io::Result<()> {
+    fn line<P: Player>(&mut self, line: &[u8], room: &mut [u64], player: &mut P) -> io::Result<()> {
         let Some(text) = line.strip_suffix(b"\n") else {
             return self.differs(line);
         };
         if text.starts_with(b"#") {
             return Ok(());
         }
-        let mut room = [0; NUMBERS];
-        let Some(call) = parse::parse(text, &mut room) else {
+        let Some(call) = parse::parse(text, room) else {
             return self.differs(text);
         };
         if !call.want.is_empty() {

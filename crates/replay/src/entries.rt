@@ -7,5 +7,8 @@ pub const BLANK: u64 = u64::MAX;
 
 // The entry of a tile that a cursor gave. `BLANK` off the map.
 pub fn of_tile(t: Tile) -> u64 {
-    ids::xyz2rmid(t.x, t.y, t.z).unwrap_or(BLANK)
+    match tile::check(t.x, t.y, t.z) {
+        Ok(()) => ids::entry(t.x, t.y, t.z),
+        Err(_) => BLANK,
+    }
 }

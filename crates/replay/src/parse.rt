@@ -1,4 +1,5 @@
 // A line of a list, `NAME ARG ARG .. = NUMBER VALUE VALUE ..`, as its name and its numbers.
+ghost use Rattle.std.specs.Prelude.{◌+◌, ◌≤◌, IfSome, length};
 
 // A call: its name and arguments, and the numbers that its answer is to be. A line with none of these is no call, but begins what follows.
 #[derive(Clone, Copy)]
@@ -9,7 +10,10 @@ pub struct Call<'a> {
 }
 
 // The call of a line. Its numbers stand in the front of `room`.
-pub fn parse<'a>(line: &'a [u8], room: &'a mut [u64]) -> Option<Call<'a>> {
+pub fn parse<'a>(line: &'a [u8], room: &'a mut [u64]) -> Option<Call<'a>>
+    ensures { IfSome result (λ call. (length call.name.now ≤ length line.now)
+        × (length call.given.now + length call.want.now ≤ length room.old)) }
+{
     let mut words = line.split(|byte| *byte == b' ');
     let name = words.next()?;
     let mut args = None;

@@ -11,7 +11,8 @@ pub fn replayed(call: Call<'_>) -> Option<bool> {
     };
     let t = args::tile(x, y, z)?;
     let same = match parent::iter_parents(t.x, t.y, t.z) {
-        Ok(parents) => answers::same_walk(parents, Parents::next, want),
+        // A tile that is refused is refused here already, and not at the first step of a cursor.
+        Ok(parents) => matches!(want, [0, ..]) && answers::same_walk(parents, Parents::next, want),
         Err(why) => answers::refused(why, 1, want),
     };
     Some(same)

@@ -7,16 +7,16 @@ mod limits;
 mod slippy;
 
 use std::io;
-use vectors_lines::tally::Tally;
+use vectors_lines::tally::Lines;
 
 fn main(rt: HostRuntime) -> io::Result<()> {
-    let mut tally = Tally::new(&rt);
-    slippy::zoom_levels(&mut tally)?;
-    slippy::edges(&mut tally)?;
-    slippy::corner(&mut tally)?;
-    slippy::subtiles(&mut tally)?;
-    slippy::from_the_bottom(&mut tally)?;
-    limits::lists(&mut tally)?;
-    area_limits::lists(&mut tally, rt.alloc())?;
-    tally.end()
+    let mut lines = Lines::new(&rt);
+    slippy::zoom_levels(&mut lines)?;
+    slippy::edges(&mut lines)?;
+    slippy::corner(&mut lines)?;
+    slippy::subtiles(&mut lines)?;
+    slippy::from_the_bottom(&mut lines)?;
+    limits::lists(&mut lines)?;
+    area_limits::lists(&mut lines, rt.alloc())?;
+    lines.end()
 }

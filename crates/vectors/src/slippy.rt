@@ -6,7 +6,7 @@ use std::io;
 use tile::Tile;
 use tile_zbox::TileZBox;
 use vectors_lines::shown::{Answer, Place, PlaceOf};
-use vectors_lines::tally::Tally;
+use vectors_lines::tally::Lines;
 
 // How many tiles a zoom has: from west to east, from north to south, and in all.
 #[derive(Clone, Copy)]
@@ -27,8 +27,8 @@ impl Display for Size {
     }
 }
 
-pub fn zoom_levels<R: Print + Alloc>(tally: &mut Tally<'_, R>) -> io::Result<()> {
-    tally.source(
+pub fn zoom_levels<R: Print + Alloc>(lines: &mut Lines<'_, R>) -> io::Result<()> {
+    lines.source(
         "OpenStreetMap wiki, Slippy map tilenames, Zoom levels: 2^n x 2^n tiles, 2^2n in all",
     )?;
     for (z, says) in [
@@ -41,7 +41,7 @@ pub fn zoom_levels<R: Print + Alloc>(tally: &mut Tally<'_, R>) -> io::Result<()>
         (18, "262144 x 262144, 68719476736 in all"),
         (19, "524288 x 524288, 274877906944 in all"),
     ] {
-        tally.told(
+        lines.told(
             format_args!("tiles of zoom {z}"),
             says,
             Answer(size_of_zoom(z)),
@@ -74,8 +74,8 @@ impl Display for Span {
     }
 }
 
-pub fn edges<R: Print + Alloc>(tally: &mut Tally<'_, R>) -> io::Result<()> {
-    tally.source("OpenStreetMap wiki, Slippy map tilenames, X and Y: from 0 to 2^zoom - 1")?;
+pub fn edges<R: Print + Alloc>(lines: &mut Lines<'_, R>) -> io::Result<()> {
+    lines.source("OpenStreetMap wiki, Slippy map tilenames, X and Y: from 0 to 2^zoom - 1")?;
     for (z, says) in [
         (0, "0 to 0"),
         (1, "0 to 1"),
@@ -86,13 +86,13 @@ pub fn edges<R: Print + Alloc>(tally: &mut Tally<'_, R>) -> io::Result<()> {
             first: side.min,
             last: side.max,
         });
-        tally.told(format_args!("x and y at zoom {z}"), says, Answer(edges))?;
+        lines.told(format_args!("x and y at zoom {z}"), says, Answer(edges))?;
     }
     Ok(())
 }
 
 // Whether zoom 2 has a tile there.
-pub fn corner<R: Print + Alloc>(tally: &mut Tally<'_, R>) -> io::Result<()> {
+pub fn corner<R: Print + Alloc>(lines: &mut Lines<'_, R>) -> io::Result<()> {
     for (x, y, says) in [
         (0, 0, "tile"),
         (3, 3, "tile"),
@@ -104,13 +104,13 @@ pub fn corner<R: Print + Alloc>(tally: &mut Tally<'_, R>) -> io::Result<()> {
         } else {
             "no tile"
         };
-        tally.told(format_args!("x {x}, y {y} at zoom 2"), says, gives)?;
+        lines.told(format_args!("x {x}, y {y} at zoom 2"), says, gives)?;
     }
     Ok(())
 }
 
-pub fn subtiles<R: Print + Alloc>(tally: &mut Tally<'_, R>) -> io::Result<()> {
-    tally.source(
+pub fn subtiles<R: Print + Alloc>(lines: &mut Lines<'_, R>) -> io::Result<()> {
+    lines.source(
         "OpenStreetMap wiki, Slippy map tilenames, Subtiles: 2x, 2y; 2x + 1, 2y; 2x, 2y + 1; 2x + 1, 2y + 1; zoom out by halving x and y",
     )?;
     for (x, y, z, says) in [
@@ -118,7 +118,7 @@ pub fn subtiles<R: Print + Alloc>(tally: &mut Tally<'_, R>) -> io::Result<()> {
         (3, 5, 3, "(6,10,4) (7,10,4) (6,11,4) (7,11,4)"),
     ] {
         let asked = Place(Tile { x, y, z });
-        tally.told(
+        lines.told(
             format_args!("subtiles of {asked}"),
             says,
             Answer(children_of(x, y, z)),
@@ -127,7 +127,7 @@ pub fn subtiles<R: Print + Alloc>(tally: &mut Tally<'_, R>) -> io::Result<()> {
     for (x, y, z, says) in [(7, 11, 4, "(3,5,3)"), (3, 5, 3, "(1,2,2)")] {
         let asked = Place(Tile { x, y, z });
         let above = fns::parent(x, y, z, None).map(|up| Place(up.tile));
-        tally.told(format_args!("zoomed out from {asked}"), says, Answer(above))?;
+        lines.told(format_args!("zoomed out from {asked}"), says, Answer(above))?;
     }
     Ok(())
 }
@@ -149,10 +149,10 @@ fn children_of(x: u32, y: u32, z: u8) -> Result<Family, Refusal> {
     Ok(Family(list))
 }
 
-pub fn from_the_bottom<R: Print + Alloc>(tally: &mut Tally<'_, R>) -> io::Result<()> {
-    tally.source("OpenStreetMap wiki, TMS: y from the bottom is 2^zoom - 1 - y")?;
+pub fn from_the_bottom<R: Print + Alloc>(lines: &mut Lines<'_, R>) -> io::Result<()> {
+    lines.source("OpenStreetMap wiki, TMS: y from the bottom is 2^zoom - 1 - y")?;
     for (y, z, says) in [(0, 0, "0"), (5, 3, "2"), (2, 3, "5"), (0, 18, "262143")] {
-        tally.told(
+        lines.told(
             format_args!("y {y} at zoom {z}"),
             says,
             Answer(fns::flipy(y, z)),

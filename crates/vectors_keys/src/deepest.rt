@@ -2,15 +2,15 @@
 use std::io;
 use tile::Tile;
 use vectors_lines::shown::{Answer, Key, Place};
-use vectors_lines::tally::Tally;
+use vectors_lines::tally::Lines;
 
 const ZOOM: u8 = 30;
 // 2^30 - 1
 const LAST: u32 = 1073741823;
 
 // Each digit is the bit of x, and twice that of y, from the highest of the 30 on.
-pub fn keys<R: Print + Alloc>(tally: &mut Tally<'_, R>) -> io::Result<()> {
-    tally.source(
+pub fn keys<R: Print + Alloc>(lines: &mut Lines<'_, R>) -> io::Result<()> {
+    lines.source(
         "Bing Maps Tile System, Tile Coordinates and Quadkeys: the bits of y and x by turns, in base 4",
     )?;
     for (x, y, key) in [
@@ -24,18 +24,18 @@ pub fn keys<R: Print + Alloc>(tally: &mut Tally<'_, R>) -> io::Result<()> {
     ] {
         let t = Tile { x, y, z: ZOOM };
         let gives = Answer(key_reader::quadkey2xyz(key.as_bytes()).map(Place));
-        tally.told(format_args!("tile of quadkey {key}"), Place(t), gives)?;
-        tally.told("quadkey of that tile", key, Key(t))?;
+        lines.told(format_args!("tile of quadkey {key}"), Place(t), gives)?;
+        lines.told("quadkey of that tile", key, Key(t))?;
     }
     Ok(())
 }
 
-pub fn numbers<R: Print + Alloc>(tally: &mut Tally<'_, R>) -> io::Result<()> {
-    tally.source(
+pub fn numbers<R: Print + Alloc>(lines: &mut Lines<'_, R>) -> io::Result<()> {
+    lines.source(
         "Document 02, K11: number limits move to (4^31 - 1)/3, but to_id and from_id refuse zoom 30 by 1 and 7",
     )?;
     let rmid = Answer(ids::xyz2rmid(LAST, LAST, ZOOM));
-    tally.told(
+    lines.told(
         "rmid of the last tile of zoom 30",
         "1537228672809129300",
         rmid,
@@ -45,10 +45,10 @@ pub fn numbers<R: Print + Alloc>(tally: &mut Tally<'_, R>) -> io::Result<()> {
         (1537228672809129301, "refusal 7"),
     ] {
         let gives = Answer(ids::rmid2xyz(rmid).map(Place));
-        tally.told(format_args!("tile of rmid {rmid}"), says, gives)?;
+        lines.told(format_args!("tile of rmid {rmid}"), says, gives)?;
     }
     let id = Answer(ids::to_id(0, 0, ZOOM));
-    tally.told("id of the first tile of zoom 30", "refusal 1", id)?;
+    lines.told("id of the first tile of zoom 30", "refusal 1", id)?;
     let gives = Answer(ids::from_id(30).map(Place));
-    tally.told("tile of id 30", "refusal 7", gives)
+    lines.told("tile of id 30", "refusal 7", gives)
 }

@@ -3,7 +3,7 @@
 use std::fmt::{self, Display};
 use std::io;
 use vectors_lines::shown::{Answer, Digits};
-use vectors_lines::tally::Tally;
+use vectors_lines::tally::Lines;
 
 // One digit more than a key may have.
 const LONG: &str = "3333333333333333333333333333333";
@@ -26,8 +26,8 @@ impl Display for Part<'_> {
     }
 }
 
-pub fn ancestors<R: Print + Alloc>(tally: &mut Tally<'_, R>) -> io::Result<()> {
-    tally.source(
+pub fn ancestors<R: Print + Alloc>(lines: &mut Lines<'_, R>) -> io::Result<()> {
+    lines.source(
         "Document 01, Quadkey: an ancestor's key is the leading part of a key, longer is 3",
     )?;
     for (key, n, says) in [
@@ -43,13 +43,13 @@ pub fn ancestors<R: Print + Alloc>(tally: &mut Tally<'_, R>) -> io::Result<()> {
             refused: key_parts::ancestor_key_refusal(key.as_bytes(), n),
             bytes: key_parts::ancestor_key(key.as_bytes(), n),
         };
-        tally.told(format_args!("first {n} digits of {key}"), says, part)?;
+        lines.told(format_args!("first {n} digits of {key}"), says, part)?;
     }
     Ok(())
 }
 
-pub fn shared<R: Print + Alloc>(tally: &mut Tally<'_, R>) -> io::Result<()> {
-    tally.source("Document 01, Quadkey: of two keys, the key of their deepest shared ancestor")?;
+pub fn shared<R: Print + Alloc>(lines: &mut Lines<'_, R>) -> io::Result<()> {
+    lines.source("Document 01, Quadkey: of two keys, the key of their deepest shared ancestor")?;
     for (a, b, says) in [
         ("130", "133", "13"),
         ("13", "130", "13"),
@@ -62,16 +62,16 @@ pub fn shared<R: Print + Alloc>(tally: &mut Tally<'_, R>) -> io::Result<()> {
             refused: key_parts::shared_key_refusal(a.as_bytes(), b.as_bytes()),
             bytes: key_parts::shared_key(a.as_bytes(), b.as_bytes()),
         };
-        tally.told(format_args!("what {a} and {b} share"), says, part)?;
+        lines.told(format_args!("what {a} and {b} share"), says, part)?;
     }
     Ok(())
 }
 
-pub fn digits<R: Print + Alloc>(tally: &mut Tally<'_, R>) -> io::Result<()> {
-    tally.source("Document 02, K11: Document 01's plates with 29 and 30 digits become 30 and 31")?;
+pub fn digits<R: Print + Alloc>(lines: &mut Lines<'_, R>) -> io::Result<()> {
+    lines.source("Document 02, K11: Document 01's plates with 29 and 30 digits become 30 and 31")?;
     let key = LONG.as_bytes();
     let read = Answer(key_reader::quadkey2xyz(&key[..30]).map(|_| "accepted"));
-    tally.told("30 digits", "accepted", read)?;
+    lines.told("30 digits", "accepted", read)?;
     let read = Answer(key_reader::quadkey2xyz(key).map(|_| "accepted"));
-    tally.told("31 digits", "refusal 4", read)
+    lines.told("31 digits", "refusal 4", read)
 }

@@ -9,21 +9,21 @@ mod pictures;
 mod steps;
 
 use std::io;
-use vectors_lines::tally::Tally;
+use vectors_lines::tally::Lines;
 
 fn main(rt: HostRuntime) -> io::Result<()> {
-    let mut tally = Tally::new(&rt);
-    bing::levels(&mut tally)?;
-    bing::tile_3_5(&mut tally)?;
-    bing::families(&mut tally)?;
-    bing::leading_parts(&mut tally)?;
-    pictures::levels(&mut tally, rt.alloc())?;
-    keys::ancestors(&mut tally)?;
-    keys::shared(&mut tally)?;
-    keys::digits(&mut tally)?;
-    deepest::keys(&mut tally)?;
-    deepest::numbers(&mut tally)?;
-    steps::of_the_page(&mut tally)?;
-    steps::of_the_longest(&mut tally)?;
-    tally.end()
+    let mut lines = Lines::new(&rt);
+    bing::levels(&mut lines)?;
+    bing::tile_3_5(&mut lines)?;
+    bing::families(&mut lines)?;
+    bing::leading_parts(&mut lines)?;
+    pictures::levels(&mut lines, rt.alloc())?;
+    keys::ancestors(&mut lines)?;
+    keys::shared(&mut lines)?;
+    keys::digits(&mut lines)?;
+    deepest::keys(&mut lines)?;
+    deepest::numbers(&mut lines)?;
+    steps::of_the_page(&mut lines)?;
+    steps::of_the_longest(&mut lines)?;
+    lines.end()
 }

@@ -5,9 +5,9 @@ use std::fmt::Display;
 use std::io;
 use tile::Tile;
 use vectors_lines::shown::{Answer, Key, Place};
-use vectors_lines::tally::Tally;
+use vectors_lines::tally::Lines;
 
-pub fn levels<R: Print + Alloc>(tally: &mut Tally<'_, R>, alloc: Global) -> io::Result<()> {
+pub fn levels<R: Print + Alloc>(lines: &mut Lines<'_, R>, alloc: Global) -> io::Result<()> {
     for (level, y, shown) in [
         (1, 0, "0 1"),
         (1, 1, "2 3"),
@@ -24,14 +24,14 @@ pub fn levels<R: Print + Alloc>(tally: &mut Tally<'_, R>, alloc: Global) -> io::
         (3, 6, "220 221 230 231 320 321 330 331"),
         (3, 7, "222 223 232 233 322 323 332 333"),
     ] {
-        row(tally, alloc, level, y, shown)?;
+        row(lines, alloc, level, y, shown)?;
     }
     Ok(())
 }
 
 // A row from the left on: the library's keys of its tiles, where the picture shows them, and the library's tiles of the picture's keys.
 fn row<R: Print + Alloc>(
-    tally: &mut Tally<'_, R>,
+    lines: &mut Lines<'_, R>,
     alloc: Global,
     level: u8,
     y: u32,
@@ -49,8 +49,8 @@ fn row<R: Print + Alloc>(
         add(&mut tiles, Answer(read.map(Place)))?;
     }
     let asked = format_args!("quadkeys of level {level}, row {y}");
-    tally.told(asked, shown, keys)?;
-    tally.told("tiles of these", places, tiles)
+    lines.told(asked, shown, keys)?;
+    lines.told("tiles of these", places, tiles)
 }
 
 // Adds to a text, with a space after what stands there.

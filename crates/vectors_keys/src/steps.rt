@@ -4,7 +4,7 @@ use fns::Ancestor;
 use std::fmt::{self, Display};
 use std::io;
 use vectors_lines::shown::{Answer, Digits, Key};
-use vectors_lines::tally::Tally;
+use vectors_lines::tally::Lines;
 
 // The ancestor's key, and apart from it the digits. Of the root's key nothing is printed.
 #[derive(Clone, Copy)]
@@ -25,8 +25,8 @@ impl Display for Cut {
 }
 
 // The keys of the page "Bing Maps Tile System".
-pub fn of_the_page<R: Print + Alloc>(tally: &mut Tally<'_, R>) -> io::Result<()> {
-    tally.source(
+pub fn of_the_page<R: Print + Alloc>(lines: &mut Lines<'_, R>) -> io::Result<()> {
+    lines.source(
         "Document 02, K9: the ancestor's key followed by the digits of the steps is the key of the tile asked about",
     )?;
     for (key, n, says) in [
@@ -39,13 +39,13 @@ pub fn of_the_page<R: Print + Alloc>(tally: &mut Tally<'_, R>) -> io::Result<()>
         ("132", 1, "1 32"),
         ("133", 255, "refusal 3"),
     ] {
-        above(tally, key, n, says)?;
+        above(lines, key, n, says)?;
     }
     Ok(())
 }
 
 // Keys of the deepest zoom, whose digits fill the room for them where the ancestor is the root.
-pub fn of_the_longest<R: Print + Alloc>(tally: &mut Tally<'_, R>) -> io::Result<()> {
+pub fn of_the_longest<R: Print + Alloc>(lines: &mut Lines<'_, R>) -> io::Result<()> {
     let ends_so = "000000000000000000000000000213";
     for (n, says) in [
         (0, "00000000000000000000000000021 3"),
@@ -54,15 +54,15 @@ pub fn of_the_longest<R: Print + Alloc>(tally: &mut Tally<'_, R>) -> io::Result<
         (29, ends_so),
         (30, "refusal 3"),
     ] {
-        above(tally, ends_so, n, says)?;
+        above(lines, ends_so, n, says)?;
     }
     let by_turns = "121212121212121212121212121212";
-    above(tally, by_turns, 14, "121212121212121 212121212121212")?;
-    above(tally, by_turns, 29, by_turns)
+    above(lines, by_turns, 14, "121212121212121 212121212121212")?;
+    above(lines, by_turns, 29, by_turns)
 }
 
 fn above<R: Print + Alloc>(
-    tally: &mut Tally<'_, R>,
+    lines: &mut Lines<'_, R>,
     key: &str,
     n: u8,
     says: &str,
@@ -73,7 +73,7 @@ fn above<R: Print + Alloc>(
         at.z,
         Some(n),
     ));
-    tally.told(
+    lines.told(
         format_args!("parent of {key} with n = {n}, and its steps"),
         says,
         Answer(up.map(Cut)),

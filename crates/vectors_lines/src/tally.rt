@@ -2,20 +2,26 @@
 use std::fmt::Display;
 use std::io;
 
-#[derive(Drop)]
-pub struct Tally<'a, R> {
-    rt: &'a R,
-    checked: u64,
-    differ: u64,
+#[derive(Clone, Copy, Debug, PartialEq, Eq)]
+pub struct Tally {
+    pub checked: u64,
+    pub differ: u64,
 }
 
-impl<'a, R: Print + Alloc> Tally<'a, R> {
-    pub fn new(rt: &'a R) -> Tally<'a, R> {
-        Tally {
-            rt,
+// The lines, each printed as it is told, and their tally.
+#[derive(Drop)]
+pub struct Lines<'a, R> {
+    rt: &'a R,
+    tally: Tally,
+}
+
+impl<'a, R: Print + Alloc> Lines<'a, R> {
+    pub fn new(rt: &'a R) -> Lines<'a, R> {
+        let tally = Tally {
             checked: 0,
             differ: 0,
-        }
+        };
+        Lines { rt, tally }
     }
 
     // The source that the lines below it come from.
@@ -32,17 +38,16 @@ impl<'a, R: Print + Alloc> Tally<'a, R> {
     ) -> io::Result<()> {
         let says = says.to_string(self.rt.alloc())?;
         let gives = gives.to_string(self.rt.alloc())?;
-        self.checked = self.checked.wrapping_add(1);
+        self.tally.checked = self.tally.checked.wrapping_add(1);
         if says.as_str() == gives.as_str() {
             return println!(self.rt; "  {asked}: says {says}, gives {gives}");
         }
-        self.differ = self.differ.wrapping_add(1);
+        self.tally.differ = self.tally.differ.wrapping_add(1);
         println!(self.rt; "  {asked}: says {says}, gives {gives}, DIFFERS")
     }
 
     pub fn end(&self) -> io::Result<()> {
-        let checked = self.checked;
-        let differ = self.differ;
+        let Tally { checked, differ } = self.tally;
         println!(self.rt; "{checked} vectors, {differ} differ")
     }
 }

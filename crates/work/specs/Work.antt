@@ -6,7 +6,7 @@
 --   work_value      what it says where nothing is refused
 --   work_left       what the lent memory holds then
 --   outcome_of      the three together, with 6
---   work_of         the same with the count alone
+--   count_of        of that the count alone
 --   told_left       what the code hands back
 use Rattle.std.specs.Prelude.{Bool, false, not, ◌&&◌, ◌||◌, List, map, ℕ, zero, suc, ◌+◌, ltb, length, Result}
 use Rattle.bits.specs.Tests.{all_of, any_of}
@@ -117,9 +117,6 @@ outcome_of work m a b memory =
 
 abbrev pub count_of : Lent Outcome → Lent ℕ
 count_of l = record { number = l.number; value = l.value.count; memory = l.memory }
-
-abbrev pub work_of : Work → ℕ → List ℕ → List ℕ → List ℕ → Lent ℕ
-work_of work m a b memory = count_of (outcome_of work m a b memory)
 
 -- an answer of the code beside its memory
 abbrev pub told_left : Result Outcome Refusal → List ℕ → Lent Outcome

@@ -14,7 +14,7 @@ ghost use Rattle.work.specs.declared.Work.TheVariants.{Simplified, Tested, Overl
 use errors::Refusal;
 use quadtree::Key;
 
-// What leaves fewer tiles of one list. An enum, since the promises and theorems of `work_of` speak of its cases.
+// What leaves fewer tiles of one list. An enum, since the promises and theorems of `outcome_of` speak of its cases.
 #[derive(Clone, Copy, Debug, PartialEq, Eq)]
 pub enum Simplification {
     Merge,
@@ -22,7 +22,7 @@ pub enum Simplification {
     Simplify,
 }
 
-// What is made of two settled lists. An enum, since the promises and theorems of `work_of` speak of its cases.
+// What is made of two settled lists. An enum, since the promises and theorems of `outcome_of` speak of its cases.
 #[derive(Clone, Copy, Debug, PartialEq, Eq)]
 pub enum Overlay {
     Union,
@@ -31,7 +31,7 @@ pub enum Overlay {
 }
 
 // What is done with lists. Only an overlay has a second one; for the others it is empty.
-// An enum and no closure, since the promises and theorems of `work_of` speak of its cases.
+// An enum and no closure, since the promises and theorems of `outcome_of` speak of its cases.
 #[derive(Clone, Copy, Debug, PartialEq, Eq)]
 pub enum Work {
     Simplified(Simplification),

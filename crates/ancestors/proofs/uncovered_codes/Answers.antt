@@ -12,7 +12,7 @@ use Rattle.ancestors.proofs.uncovered_codes.Goals as goal
 
 pub settle-tops-requires : goal.settle-tops-requires
 settle-tops-requires c = let l = c.args.locations.now in
-    rw (c.copy_from_slice.ensures.after, c.sort_into.ensures) (sort_numbers location_of l c.requires.0, sorted_by_lem l)
+    rw (c.copy.ensures, c.sort_into.ensures) (sort_numbers location_of l c.requires.0, sorted_by_lem l)
 
 pub slice_bounds-uncovered-end-2 : goal.slice_bounds-uncovered-end-2
 slice_bounds-uncovered-end-2 c = let s = c.settle-tops in sym (length-take-le s.result s.new.locations s.ensures.within)
@@ -23,7 +23,7 @@ uncovered-requires c = let l = c.args.locations.now in
     let e = c.sort_into.ensures in
     rw e (record {
       tile_numbers = (f, sorted_by_lem l);
-      tops = settled_tops (omega (arith, max_zoom_small)) f (rw (c.copy_from_slice.ensures.after, e) at c.settle-tops.ensures);
+      tops = settled_tops (omega (arith, max_zoom_small)) f (rw (c.copy.ensures, e) at c.settle-tops.ensures);
     })
 
 pub returns : goal.returns

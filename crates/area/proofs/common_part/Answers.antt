@@ -5,4 +5,4 @@ use Rattle.area.proofs.common_part.Goals as goal
 
 pub returns : goal.returns
 returns c = let a = c.args in
-    c.counted.ensures ∙ common_door a.a.now a.b.now a.out.now
+    c.overlaid.ensures ∙ common_door a.a.now a.b.now a.out.now

@@ -5,4 +5,4 @@ use Rattle.area.proofs.difference.Goals as goal
 
 pub returns : goal.returns
 returns c = let a = c.args in
-    c.counted.ensures ∙ difference_door a.a.now a.b.now a.out.now
+    c.overlaid.ensures ∙ difference_door a.a.now a.b.now a.out.now

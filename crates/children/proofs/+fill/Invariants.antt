@@ -7,7 +7,7 @@ use Rattle.children.specs.Family.{child_entries}
 use Rattle.children.proofs.+fill.Given as goal
 
 abbrev pub decreases-fill : goal.decreases-fill
-decreases-fill l = l.depth
+decreases-fill g l = l.depth
 
 abbrev pub invariant-loop-k : goal.invariant-loop-k
-invariant-loop-k l = l.out ≡ quarters (child_entries l.family (l.depth - 1) l.x l.y l.z) (family_of l.family) l.quarter l.k l.initial.out
+invariant-loop-k g l = l.out ≡ quarters (child_entries g.F.Family.order (l.depth - 1) l.x l.y l.z) (family_of g.F.Family.order) l.quarter l.k l.initial.out
