@@ -154,7 +154,7 @@ fn run_length(bytes: &[u8]) -> usize
 fn is_key_byte(b: u8) -> bool
     ensures { result ≡ is_key_byte b }
 {
-    // Of these four the compiler makes one test; of `!matches!` it made three, and a long key took 1.6 times as long.
+    // Of these four the compiler makes one test. Of `!matches!` it made three: for a long key 1.6 times the instructions, 3 times the time.
     b != b' ' && b != b'(' && b != b')' && b != b'\n'
 }
 
