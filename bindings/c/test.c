@@ -70,6 +70,10 @@ static void readers(void)
     EXPECT(nori_key_tile(x, y, count, bad, &tx, &ty, &tz) == NORI_KEY_LENGTH && tx == 0 && ty == 0 && tz == 0);
     x = 8, y = 7, count = 3;
     EXPECT(nori_key_feed('0', &x, &y, &count, &bad) == NORI_NO_STATE && x == 8 && y == 7 && count == 3 && bad == 0);
+    /* What is refused is not written at all, so that it may lie where nothing can be. */
+    static const uint32_t column = 8, row = 7;
+    static const uint8_t digits = 3, good = 0;
+    EXPECT(nori_key_feed('0', (uint32_t *)&column, (uint32_t *)&row, (uint8_t *)&digits, (uint8_t *)&good) == NORI_NO_STATE);
     x = 7, bad = 2;
     EXPECT(nori_key_feed('0', &x, &y, &count, &bad) == NORI_NO_STATE && x == 7 && y == 7 && count == 3 && bad == 2);
     tx = ty = tz = 9;

@@ -22,6 +22,7 @@ pub fn feed(byte: u8, x: &mut u32, y: &mut u32, count: &mut u8, bad: &mut u8) ->
         count: *count,
         bad: *bad == 1,
     };
+    // Of a feed that is refused nothing is written, not even what stands there.
     match reader.feed(byte) {
         Ok(()) => {
             *x = reader.x;

@@ -11,8 +11,10 @@ ghost use Rattle.ids.specs.Entry.{entries_of};
 use constants::MAX_ZOOM;
 use errors::Refusal;
 
-// The order within a family. It is a type, so that the compiler makes a `fill` for each order.
+// The order within a family. It is a type, so that the compiler makes a `fill` for each order. A const parameter would say it more shortly,
+// but of a function that has one and calls itself this kit takes no answer for the call.
 trait Family {
+    // Whether it is clockwise.
     ghost order: { Bool };
 
     // The quadkey digits of the four children, in order.

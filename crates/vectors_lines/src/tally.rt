@@ -12,7 +12,7 @@ pub struct Tally {
 #[derive(Drop)]
 pub struct Lines<'a, R> {
     rt: &'a R,
-    tally: Tally,
+    pub tally: Tally,
 }
 
 impl<'a, R: Print + Alloc> Lines<'a, R> {
